@@ -1,0 +1,4 @@
+pub mod Tests
+pub mod Over
+pub mod Lowest
+pub mod Numbers

@@ -1,0 +1,2 @@
+// What programs that take turns see of a machine, and what holds of it. The definitions are in specs/, the theorems are the contracts below.
+pub mod vocabulary;
