@@ -1,2 +1,5 @@
 pub mod Core
 pub mod World
+pub mod Ranges
+pub mod Happens
+pub mod Theorems

@@ -250,13 +250,13 @@ module _ {Cpu : Type 0} where
 
 module _ {Cpu : Type 0} where
   -- a call has this answer; is turned down, and nothing has changed; stays, to be made again in the next turn
-  unfoldable pub answers : World Cpu → ℕ → Done Cpu
+  abbrev pub answers : World Cpu → ℕ → Done Cpu
   answers v a = record { world = v; outcome = Answer a }
 
-  unfoldable pub turned-down : World Cpu → Done Cpu
+  abbrev pub turned-down : World Cpu → Done Cpu
   turned-down w = answers w no
 
-  unfoldable pub stays : World Cpu → Done Cpu
+  abbrev pub stays : World Cpu → Done Cpu
   stays w = record { world = w; outcome = Stays }
 
   -- the open thing k moves on in its file by n
