@@ -1,1 +1,6 @@
 pub mod Step
+pub mod Screens
+pub mod Files
+pub mod Others
+pub mod Rows
+pub mod Idle

@@ -272,8 +272,11 @@ module _ {Cpu : Type 0} where
   fitting z w j bs = take (z .pipe - length (pipe-of w j)) bs
 
   -- children of p get process 0 for a parent
+  unfoldable pub without-parent : ℕ → Process Cpu → Process Cpu
+  without-parent p q = with-parent q (pick (eqb (q .parent) p) 0 (q .parent))
+
   unfoldable pub orphaned : World Cpu → ℕ → World Cpu
-  orphaned w p = with-processes w (map (λ q. with-parent q (pick (eqb (q .parent) p) 0 (q .parent))) (w .processes))
+  orphaned w p = with-processes w (map (without-parent p) (w .processes))
 
 -- a program in memory: at address 0, with zeros behind it, cut off at the memory's end
 unfoldable pub loaded : Sizes → List ℕ → List ℕ
