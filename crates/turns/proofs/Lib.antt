@@ -4,3 +4,4 @@ pub mod Files
 pub mod Others
 pub mod Rows
 pub mod Idle
+pub mod Turns
