@@ -5,3 +5,4 @@ pub mod Others
 pub mod Rows
 pub mod Idle
 pub mod Turns
+pub mod Pipes

@@ -86,17 +86,17 @@ module _ {Cpu : Type 0} (core : Core Cpu) where
     pub behind : pipe-of v j ≡ pipe-of w j ++ bs
     pub answer : process core v p .cpu ≡ core .answered (process core w p .cpu) (length bs)
 
-  -- what goes out of pipe j and what comes into it in an event
-  pub data Flow (z : Sizes) (w : World Cpu) (j : ℕ) (e : Event) : List ℕ → List ℕ → Type 0 where
-    still : pipe-of (event core z w e) j ≡ pipe-of w j → Flow z w j e [] []
-    took : (bs : List ℕ) → Took w (event core z w e) (w .turn) j (made w e) bs → Flow z w j e bs []
-    gave : (bs : List ℕ) → Gave z w (event core z w e) (w .turn) j (made w e) bs → Flow z w j e [] bs
+  -- what goes out of pipe j and what comes into it from world w to world v, if the process whose turn it is makes this call
+  pub data Flow (z : Sizes) (w v : World Cpu) (j : ℕ) (c : Option Call) : List ℕ → List ℕ → Type 0 where
+    still : pipe-of v j ≡ pipe-of w j → Flow z w v j c [] []
+    took : (bs : List ℕ) → Took w v (w .turn) j c bs → Flow z w v j c bs []
+    gave : (bs : List ℕ) → Gave z w v (w .turn) j c bs → Flow z w v j c [] bs
 
   -- the same over a row of events: all that went out, all that came in
   pub data Flows (z : Sizes) (j : ℕ) : World Cpu → List Event → List ℕ → List ℕ → Type 0 where
     none : (w : World Cpu) → Flows z j w [] [] []
-    more : (w : World Cpu) (e : Event) (es : List Event) (out ins outs inns : List ℕ) → Flow z w j e out ins → Flows z j (event core z w e) es outs inns →
-        Flows z j w (e ∷ es) (out ++ outs) (ins ++ inns)
+    more : (w : World Cpu) (e : Event) (es : List Event) (out into outs intos : List ℕ) → Flow z w (event core z w e) j (made w e) out into → Flows z j (event core z w e) es outs intos →
+        Flows z j w (e ∷ es) (out ++ outs) (into ++ intos)
 
   -- somebody can write into the pipe or read from it
   unfoldable pub pipe-in-use : World Cpu → ℕ → Bool

@@ -84,13 +84,14 @@ By-handle Cpu =
 -- an event leaves a pipe in use as it was, takes a front out of it for a reader, or puts a writer's bytes behind it
 abbrev pub In-order : Type 0 → Type 0
 In-order Cpu =
-    (core : Core Cpu) (z : Sizes) (w : World Cpu) (j : ℕ) (e : Event) → pipe-in-use core w j ≡ true → (out : List ℕ) × (ins : List ℕ) × Flow core z w j e out ins
+    (core : Core Cpu) (z : Sizes) (w : World Cpu) (j : ℕ) (e : Event) → j < length (w .pipes) → pipe-in-use core w j ≡ true →
+    (out : List ℕ) × (into : List ℕ) × Flow core z w (event core z w e) j (made core w e) out into
 
 -- over a row of events: what was there at first, followed by all that came in, is all that went out, followed by what is there
 abbrev pub First-in-first-out : Type 0 → Type 0
 First-in-first-out Cpu =
-    (core : Core Cpu) (z : Sizes) (w : World Cpu) (j : ℕ) (es : List Event) → Stays-in-use core z w j es →
-    (outs : List ℕ) × (inns : List ℕ) × Flows core z j w es outs inns × (pipe-of w j ++ inns ≡ outs ++ pipe-of (run core z w es) j)
+    (core : Core Cpu) (z : Sizes) (w : World Cpu) (j : ℕ) (es : List Event) → j < length (w .pipes) → Stays-in-use core z w j es →
+    (outs : List ℕ) × (intos : List ℕ) × Flows core z j w es outs intos × (pipe-of w j ++ intos ≡ outs ++ pipe-of (run core z w es) j)
 
 -- TURNS
 
