@@ -6,3 +6,5 @@ pub mod Rows
 pub mod Idle
 pub mod Turns
 pub mod Pipes
+pub mod Shapes
+pub mod Holds

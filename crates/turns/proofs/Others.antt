@@ -46,7 +46,7 @@ module _ {Cpu : Type 0} (core : Core Cpu) where
   unfolding runs-in free-process left-child
   not-placed z w v p q _ _ n r (ticked c) e = n e
   not-placed z w v p q _ _ n r (stored a bs c s l) e = n e
-  not-placed z w v p q _ _ n r (filled a bs l) e = n e
+  not-placed z w v p q _ _ n r (filled a bs s l) e = n e
   not-placed z w v p q _ _ n r (handled h o k) e = n e
   not-placed z w v p q _ _ n r (piped h g k l a x y b c d i j) e = n e
   not-placed z w v p q _ _ n r (begun f) e = n e

@@ -52,12 +52,18 @@ module _ {Cpu : Type 0} (core : Core Cpu) where
     copied : (h : ℕ) → Handle z w p v (handle-of core w p h)
     new : (k : ℕ) → k < z .opens → (k < length (v .opens) → Real z (opened v k .end) ⊎ Named z w (opened v k .end)) → Handle z w p v (Some k)
 
+  -- where bytes that are read come from
+  pub data Source (w : World Cpu) : List ℕ → Type 0 where
+    from-file : (f m n : ℕ) → Source w (take n (drop m (file-of w f)))
+    from-keys : (t n : ℕ) → Source w (take n (keys-of w t))
+    from-pipe : (j n : ℕ) → Source w (take n (pipe-of w j))
+
   -- the processes that p's doing in w puts into a world v, and where
   pub data New (z : Sizes) (w : World Cpu) (p : ℕ) (v : World Cpu) : ℕ → Process Cpu → Type 0 where
     ticked : (c : Cpu) → New z w p v p (with-cpu (process core v p) c)
     stored : (a : ℕ) (bs : List ℕ) (c : Cpu) → core .act (process core w p .cpu) (process core w p .memory) ≡ store a bs c → a + length bs ≤ z .memory →
         New z w p v p (with-cpu (with-memory (process core w p) (over (process core w p .memory) a bs)) c)
-    filled : (a : ℕ) (bs : List ℕ) → a + length bs ≤ z .memory → New z w p v p (with-memory (process core w p) (over (process core w p .memory) a bs))
+    filled : (a : ℕ) (bs : List ℕ) → Source w bs → a + length bs ≤ z .memory → New z w p v p (with-memory (process core w p) (over (process core w p .memory) a bs))
     handled : (h : ℕ) (o : Option ℕ) → Handle z w p v o → New z w p v p (with-handles (process core w p) (set (process core w p .handles) h o))
     piped : (h g k l a x y : ℕ) → Handle z w p v (Some k) → Handle z w p v (Some l) → a + 2 ≤ z .memory → x < z .handles → y < z .handles →
         New z w p v p
@@ -68,9 +74,9 @@ module _ {Cpu : Type 0} (core : Core Cpu) where
         (record { state = Runs; parent = p; cpu = core .answered (process core w p .cpu) 0; memory = process core w p .memory; handles = process core w p .handles })
     reaped : left-child core z w p < z .processes → New z w p v (left-child core z w p) (nobody core)
 
-  -- the open things that a call in w puts into a world v, and where: a new one where none is in use, or one that has moved on in its file
+  -- the open things that a call in w puts into a world v, and where: a new one, or one that has moved on in its file
   pub data Opened (z : Sizes) (w v : World Cpu) : ℕ → OpenThing → Type 0 where
-    made : (k : ℕ) (e : End) → v .processes ≡ w .processes → in-use core w k ≡ false → k < z .opens → Real z e ⊎ Named z w e → Opened z w v k (record { end = e; at = 0 })
+    made : (k : ℕ) (e : End) → Real z e ⊎ Named z w e → Opened z w v k (record { end = e; at = 0 })
     went : (k f n : ℕ) → opened w k .end ≡ File f → v .opens ≡ w .opens → (n ≡ 0) ⊎ ((opened w k .at + n ≤ length (file-of w f)) ⊎ (opened w k .at + n ≤ z .file)) →
         Opened z w v k (record { end = opened v k .end; at = opened v k .at + n })
 
@@ -101,18 +107,9 @@ module _ {Cpu : Type 0} (core : Core Cpu) where
       truth : _≡_ {A = Bool} true false → ⊥
       truth x = let n : _≡_ {A = ℕ} 0 1 = cc in omega arith
 
-  free-open-free : (z : Sizes) (w : World Cpu) → free-open core z w < z .opens → in-use core w (free-open core z w) ≡ false
-  unfolding free-open
-  free-open-free z w l = not-true _ (lowest-holds (λ k. not (in-use core w k)) (z .opens) l)
-
   second-open-behind : (z : Sizes) (w : World Cpu) → free-open core z w < second-open core z w
   unfolding second-open
   second-open-behind z w = lowest-from-ge _ (suc (free-open core z w)) (z .opens - suc (free-open core z w))
-
-  second-open-free : (z : Sizes) (w : World Cpu) → second-open core z w < z .opens → in-use core w (second-open core z w) ≡ false
-  unfolding second-open
-  second-open-free z w l = not-true _ (lowest-from-holds (λ k. not (in-use core w k)) (suc (free-open core z w)) (z .opens - suc (free-open core z w))
-      (omega (arith, lowest-from-ge (λ k. not (in-use core w k)) (suc (free-open core z w)) (z .opens - suc (free-open core z w)))))
 
   -- an open thing that was put there is there
   open-there : (w : World Cpu) (k : ℕ) (o : OpenThing) → k < length (w .opens) → opened (with-open w k o) k ≡ o
@@ -148,7 +145,7 @@ module _ {Cpu : Type 0} (core : Core Cpu) where
     reading-by h k d n Nothing q r l = down
     reading-by h k d n (WriteEnd j) q r l = down
     reading-by h k d n (File f) q r l =
-        on (a .opens _ k _ (went k f _ q refl (some-of (opened w k .at) n (file-of w f))) (a .placed w p _ (filled d _ (part-fits d n _ l)) (a .here)))
+        on (a .opens _ k _ (went k f _ q refl (some-of (opened w k .at) n (file-of w f))) (a .placed w p _ (filled d _ (from-file f (opened w k .at) n) (part-fits d n _ l)) (a .here)))
       where
         some-of : (m n : ℕ) (xs : List ℕ) → (length (take n (drop m xs)) ≡ 0) ⊎ ((m + length (take n (drop m xs)) ≤ length xs) ⊎ (m + length (take n (drop m xs)) ≤ z .file))
         some-of m n xs = elim (cases-lt m (length xs)) [
@@ -156,7 +153,7 @@ module _ {Cpu : Type 0} (core : Core Cpu) where
           | inr h ↦ inl (simp (length-take, length-drop) (omega arith))
         ]
     reading-by h k d n (Screen t) q r l =
-        both _ _ _ (λ _. stayed) (λ _. on (a .keyed _ t n refl (a .placed w p _ (filled d _ (part-fits d n _ l)) (a .here))))
+        both _ _ _ (λ _. stayed) (λ _. on (a .keyed _ t n refl (a .placed w p _ (filled d _ (from-keys t n) (part-fits d n _ l)) (a .here))))
     reading-by h k d n (ReadEnd j) q r l = both _ _ _ (λ _. both _ _ _ (λ _. stayed) (λ _. on (a .here))) (λ _. on (a .taken h d j n r (part-fits d n _ l)))
 
     read-through : (h d n : ℕ) (o : Option ℕ) → handle-of core w p h ≡ o → d + n ≤ z .memory → After w P (reads-by core w p d n o)
@@ -198,7 +195,7 @@ module _ {Cpu : Type 0} (core : Core Cpu) where
         one : Named z w (named z w f) → free-open core z w < z .opens →
             After w P (answers (with-handle core (with-open w (free-open core z w) (record { end = named z w f; at = 0 })) p (free-handle z (process core w p)) (Some (free-open core z w))) (free-handle z (process core w p)))
         one n l = on (a .placed _ p _ (handled _ _ (new _ l (λ b. inr (rw (open-there w (free-open core z w) _ (omega (arith, length-set (w .opens) (free-open core z w) (record { end = named z w f; at = 0 })))) n))))
-            (a .opens w _ _ (made _ _ refl (free-open-free z w l) l (inr n)) (a .here)))
+            (a .opens w _ _ (made _ _ (inr n)) (a .here)))
 
     piping : (d : ℕ) → After w P (pipes-through core z w p d)
     unfolding pipes-through with-open with-pipe Real
@@ -226,8 +223,8 @@ module _ {Cpu : Type 0} (core : Core Cpu) where
             (new (second-open core z w) l (λ b. inl (subst (λ (o : OpenThing). Real z (o .end)) (sym (pipe-second w (free-open core z w) (second-open core z w) one other (free-pipe core z w) (omega arith))) j)))
             m (omega (arith, second-handle-behind z (process core w p))) g)
             (a .emptied (with-open (with-open w (free-open core z w) one) (second-open core z w) other) refl j
-            (a .opens (with-open w (free-open core z w) one) (second-open core z w) other (made (second-open core z w) (WriteEnd (free-pipe core z w)) refl (second-open-free z w l) l (inl j))
-            (a .opens w (free-open core z w) one (made (free-open core z w) (ReadEnd (free-pipe core z w)) refl (free-open-free z w f) f (inl j)) (a .here)))))
+            (a .opens (with-open w (free-open core z w) one) (second-open core z w) other (made (second-open core z w) (WriteEnd (free-pipe core z w)) (inl j))
+            (a .opens w (free-open core z w) one (made (free-open core z w) (ReadEnd (free-pipe core z w)) (inl j)) (a .here)))))
 
     pub does-by : (c : Call) → After w P (does core z w p c)
     unfolding does forks waits execs closes copies with-handle reads writes leaves
