@@ -72,11 +72,14 @@ module _ {Cpu : Type 0} (core : Core Cpu) where
   used-by w k u =
       let p : ℕ = lowest (has-open core w k) (length (w .processes)) in
       let a : (runs-in core w p && some (λ i. leads-to k (getD (process core w p .handles) i None)) (length (process core w p .handles))) ≡ true =
-        lowest-holds (has-open core w k) (length (w .processes)) (ltb-true _ _ u) in
+      lowest-holds (has-open core w k) (length (w .processes)) (ltb-true _ _ u) in
       let b : some (λ i. leads-to k (getD (process core w p .handles) i None)) (length (process core w p .handles)) ≡ true = and-parts (runs-in core w p) _ a .1 in
-      let h : ℕ = lowest (λ i. leads-to k (getD (process core w p .handles) i None)) (length (process core w p .handles)) in
-      (p, h, and-parts (runs-in core w p) _ a .0,
-        leads-some k _ (lowest-holds (λ i. leads-to k (getD (process core w p .handles) i None)) (length (process core w p .handles)) (ltb-true _ _ b)))
+      let h : ℕ = lowest (λ i. leads-to k (getD (process core w p .handles) i None)) (length (process core w p .handles)) in (
+        p,
+        h,
+        and-parts (runs-in core w p) _ a .0,
+        leads-some k _ (lowest-holds (λ i. leads-to k (getD (process core w p .handles) i None)) (length (process core w p .handles)) (ltb-true _ _ b)),
+      )
 
   -- handles of a process that runs lead to what there is in world v
   abbrev Leads : Sizes → World Cpu → Process Cpu → Type 0
@@ -156,7 +159,7 @@ module _ {Cpu : Type 0} (core : Core Cpu) where
           tables = table-ways core z w p (s .tables) .left n;
           old = s .old;
           leads = λ q. getD-set-by (Leads z w) (map _ (w .processes)) p q _ _ (λ _ t. absurd (both-ways false refl t))
-            (let o = orphans core p (w .processes) q in λ t h k e. s .leads q (subst (λ x. is-running x ≡ true) (o .state) t) h k (subst (λ (hs : List (Option ℕ)). getD hs h None ≡ Some k) (o .handles) e));
+              (let o = orphans core p (w .processes) q in λ t h k e. s .leads q (subst (λ x. is-running x ≡ true) (o .state) t) h k (subst (λ (hs : List (Option ℕ)). getD hs h None ≡ Some k) (o .handles) e));
         }
 
     held-ways : Ways core (Held z w) z w p
@@ -185,9 +188,9 @@ module _ {Cpu : Type 0} (core : Core Cpu) where
   unfolding with-turn with-keys
   held-step z w e s =
       let h : Held z w (event core z w e) =
-        event-by core (Held z w) z w s (λ _ t. held-ways z w (w .turn) s t)
-        (λ v t u h. held-same z w v _ refl refl (record { processes = h .tables .processes; opens = h .tables .opens; pipes = h .tables .pipes; files = h .tables .files; keys = h .tables .keys; shown = h .tables .shown }) h)
-        (λ t b _ _. held-same z w w _ refl refl (record { processes = s .tables .processes; opens = s .tables .opens; pipes = s .tables .pipes; files = s .tables .files; keys = length-set _ _ _ ∙ s .tables .keys; shown = s .tables .shown }) s) e in
+      event-by core (Held z w) z w s (λ _ t. held-ways z w (w .turn) s t)
+      (λ v t u h. held-same z w v _ refl refl (record { processes = h .tables .processes; opens = h .tables .opens; pipes = h .tables .pipes; files = h .tables .files; keys = h .tables .keys; shown = h .tables .shown }) h)
+      (λ t b _ _. held-same z w w _ refl refl (record { processes = s .tables .processes; opens = s .tables .opens; pipes = s .tables .pipes; files = s .tables .files; keys = length-set _ _ _ ∙ s .tables .keys; shown = s .tables .shown }) s) e in
       held-self z (event core z w e) (h .tables) (h .leads)
 
   held-start : (z : Sizes) (fs : List (List ℕ)) → Fits z fs → Held z (begin core z fs) (begin core z fs)

@@ -8,3 +8,4 @@ pub mod Turns
 pub mod Pipes
 pub mod Shapes
 pub mod Holds
+pub mod Within

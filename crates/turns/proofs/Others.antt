@@ -53,7 +53,7 @@ module _ {Cpu : Type 0} (core : Core Cpu) where
   not-placed z w v p q _ _ n r (born l) e = runs-not-free _ (rw (sym e) at (lowest-holds (λ i. is-free (process core w i .state)) (z .processes) l)) r
   not-placed z w v p q _ _ n r (reaped l) e =
       let h : (is-child core w p (left-child core z w p) && is-left (process core w (left-child core z w p) .state)) ≡ true =
-        lowest-holds (λ i. is-child core w p i && is-left (process core w i .state)) (z .processes) l in
+      lowest-holds (λ i. is-child core w p i && is-left (process core w i .state)) (z .processes) l in
       runs-not-left _ (subst (λ i. is-left (process core w i .state) ≡ true) (sym e) (and-parts (is-child core w p (left-child core z w p)) (is-left (process core w (left-child core z w p) .state)) h .1)) r
 
   -- who loses a parent keeps all else

@@ -85,8 +85,8 @@ module _ {Cpu : Type 0} (core : Core Cpu) where
         let f : process core b (w .turn) ≡ with-memory (process core w (w .turn)) (over (process core w (w .turn) .memory) a (take n (pipe-of w j))) = getD-set-same (w .processes) (w .turn) _ _ t in
         let g = goes-process z b (w .turn) (length (take n (pipe-of w j))) (rw (length-set (w .processes) (w .turn) (with-memory (process core w (w .turn)) (over (process core w (w .turn) .memory) a (take n (pipe-of w j))))) t) in
         let q : process core (goes-on core z b (w .turn) (Answer (length (take n (pipe-of w j))))) (w .turn) ≡
-            with-cpu (with-memory (process core w (w .turn)) (over (process core w (w .turn) .memory) a (take n (pipe-of w j)))) (core .answered (process core w (w .turn) .cpu) (length (take n (pipe-of w j)))) =
-            g ∙ ap (λ (x : Process Cpu). with-cpu x (core .answered (x .cpu) (length (take n (pipe-of w j))))) f in
+        with-cpu (with-memory (process core w (w .turn)) (over (process core w (w .turn) .memory) a (take n (pipe-of w j)))) (core .answered (process core w (w .turn) .cpu) (length (take n (pipe-of w j)))) =
+        g ∙ ap (λ (x : Process Cpu). with-cpu x (core .answered (x .cpu) (length (take n (pipe-of w j))))) f in
         record {
           handle = h;
           address = a;
@@ -225,7 +225,7 @@ module _ {Cpu : Type 0} (core : Core Cpu) where
       pick-both (λ v. (out : List ℕ) × (into : List ℕ) × Flow core z w v j (made core w Tick) out into) _ _ _
       (λ a. pick-both (λ v. (out : List ℕ) × (into : List ℕ) × Flow core z w v j (made core w Tick) out into) _ _ _
       (λ b. subst (λ o. (out : List ℕ) × (into : List ℕ) × Flow core z w (acts core z w (w .turn) (instruction core w)) j o out into) (sym (pick-true _ _ _ (and-from _ _ a b)))
-        (by-act z w j l u b (instruction core w)))
+      (by-act z w j l u b (instruction core w)))
       (λ _. ([], [], still refl)))
       (λ _. ([], [], still refl))
 
@@ -269,10 +269,13 @@ module _ {Cpu : Type 0} (core : Core Cpu) where
   flows z j w [] l u = ([], [], none w, append-nil _)
   flows z j w (e ∷ es) l u =
       let f = flow z w j e l (u .0) in
-      let r = flows z j (event core z w e) es (omega (arith, as-many z w e)) (u .1) in
-      (f .0 ++ r .0, f .1 ++ r .1, more w e es (f .0) (f .1) (r .0) (r .1) (f .2) (r .2),
+      let r = flows z j (event core z w e) es (omega (arith, as-many z w e)) (u .1) in (
+        f .0 ++ r .0,
+        f .1 ++ r .1,
+        more w e es (f .0) (f .1) (r .0) (r .1) (f .2) (r .2),
         sym (append-assoc (pipe-of w j) (f .1) (r .1)) ∙ ap (λ t. t ++ r .1) (flow-sum z w _ j _ (f .0) (f .1) (f .2))
-        ∙ append-assoc (f .0) (pipe-of (event core z w e) j) (r .1) ∙ ap (λ t. f .0 ++ t) (r .3) ∙ sym (append-assoc (f .0) (r .0) _))
+            ∙ append-assoc (f .0) (pipe-of (event core z w e) j) (r .1) ∙ ap (λ t. f .0 ++ t) (r .3) ∙ sym (append-assoc (f .0) (r .0) _),
+      )
 
 pub in-order : (Cpu : Type 0) → In-order Cpu
 in-order Cpu core z w j e l u = flow core z w j e l u
