@@ -9,3 +9,4 @@ pub mod Pipes
 pub mod Shapes
 pub mod Holds
 pub mod Within
+pub mod Lives

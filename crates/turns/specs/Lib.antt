@@ -3,3 +3,4 @@ pub mod World
 pub mod Ranges
 pub mod Happens
 pub mod Theorems
+pub mod Promise
