@@ -5,3 +5,4 @@ pub mod Numbers
 pub mod Happens
 pub mod Theorems
 pub mod Promise
+pub mod Corners
