@@ -1,2 +1,3 @@
 // What people and programs feed to the machine: rows of events, as bytes or as text, and lists from which discs are made.
 pub mod events;
+mod seeking;

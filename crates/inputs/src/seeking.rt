@@ -1,0 +1,75 @@
+// Finding one's way in a text: blanks, words, line ends and comments.
+ghost use mathlib.Core.Path.{_≡_};
+ghost use Prim.Native.Nat.{_≤_};
+ghost use lib.ListN.{length};
+ghost use Rattle.inputs.specs.Texts.{meets, found, with-digit, number-of};
+
+// What is looked for in a text.
+#[derive(Clone, Copy)]
+pub(crate) enum Seek {
+    // a blank: a space, a tab, or the carriage return that some put before a line's end
+    Blank,
+    // anything else
+    Word,
+    LineEnd,
+    Comment,
+}
+
+impl Seek {
+    pub(crate) fn meets(self, b: u8) -> bool
+        ensures { λ r. ⌜ r ≡ meets self b ⌝ }
+    {
+        match self {
+            Seek::Blank => b == b' ' || b == b'\t' || b == b'\r',
+            Seek::Word => b != b' ' && b != b'\t' && b != b'\r',
+            Seek::LineEnd => b == b'\n',
+            Seek::Comment => b == b'#',
+        }
+    }
+}
+
+// The first place from `from` on where there is such a byte; the text's end if there is none.
+pub(crate) fn find(text: &[u8], from: usize, what: Seek) -> usize
+    requires { ⌜ from ≤ length (now text) ⌝ }
+    ensures place { λ r. ⌜ r ≡ found what (now (text .entry)) from ⌝ }
+    ensures behind { λ r. ⌜ from ≤ r ⌝ }
+    ensures within { λ r. ⌜ r ≤ length (now (text .entry)) ⌝ }
+{
+    for i in from..text.len() {
+        if what.meets(text[i]) {
+            return i;
+        }
+    }
+    text.len()
+}
+
+// A number with one decimal digit more; none if it is no digit, or 32 bits do not hold the number.
+fn with_digit(n: u32, b: u8) -> Option<u32>
+    ensures { λ r. ⌜ r ≡ with-digit n b ⌝ }
+{
+    if b < b'0' || b > b'9' {
+        return None;
+    }
+    let more = n as u64 * 10 + (b - b'0') as u64;
+    if more > 0xffff_ffff {
+        return None;
+    }
+    Some(more as u32)
+}
+
+// The number that a word writes in decimal digits.
+pub(crate) fn number(word: &[u8]) -> Option<u32>
+    ensures { λ r. ⌜ r ≡ number-of (now (word .entry)) ⌝ }
+{
+    if word.len() == 0 {
+        return None;
+    }
+    let mut n = 0;
+    for b in word {
+        match with_digit(n, *b) {
+            Some(more) => n = more,
+            None => return None,
+        }
+    }
+    Some(n)
+}
