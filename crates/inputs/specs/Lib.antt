@@ -1,2 +1,4 @@
 pub mod Events
 pub mod Texts
+pub mod Names
+pub mod Lists

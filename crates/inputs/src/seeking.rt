@@ -2,6 +2,7 @@
 ghost use mathlib.Core.Path.{_≡_};
 ghost use Prim.Native.Nat.{_≤_};
 ghost use lib.ListN.{length};
+ghost use Rattle.std.specs.shelf.Text.{sameBytes};
 ghost use Rattle.inputs.specs.Texts.{meets, found, with-digit, number-of};
 
 // What is looked for in a text.
@@ -72,4 +73,11 @@ pub(crate) fn number(word: &[u8]) -> Option<u32>
         }
     }
     Some(n)
+}
+
+// Whether a word is this one.
+pub(crate) fn is(word: &[u8], name: &[u8]) -> bool
+    ensures { λ r. ⌜ r ≡ sameBytes (now (word .entry)) (now (name .entry)) ⌝ }
+{
+    word == name
 }

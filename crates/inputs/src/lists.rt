@@ -1,0 +1,151 @@
+// Lists: the text from which discs are made. A line gives a size by its name, as `processes 2`, or the contents of a file, as `put 0 PATH`; `#` begins a comment.
+ghost use mathlib.Core.Path.{_≡_};
+ghost use Prim.Native.Nat.{ℕ, _+_, _≤_, _<_};
+ghost use lib.ListN.{length, getD};
+ghost use Rattle.inputs.specs.Lists.{part, span-at, size-entry, put-entry, entry-of};
+use crate::names::SizeName;
+use crate::seeking::Seek;
+use crate::seeking::find;
+use crate::seeking::is;
+use crate::seeking::number;
+use turns::vocabulary::Sizes;
+
+// A part of a text, from a place up to before another.
+#[derive(Clone, Copy)]
+pub struct Span {
+    pub from: usize,
+    pub to: usize,
+}
+
+impl Span {
+    // This part of a text.
+    pub fn of(self, text: &[u8]) -> &[u8]
+        requires order { ⌜ self .from ≤ self .to ⌝ }
+        requires within { ⌜ self .to ≤ length (now text) ⌝ }
+        ensures { λ r. ⌜ now r ≡ part (now (text .entry)) self ⌝ }
+    {
+        let from = self.from;
+        let to = self.to;
+        &text[from..to]
+    }
+}
+
+// Where the contents of a file come from: the path in the list's text, and the line that it stands in.
+#[derive(Clone, Copy)]
+pub struct Put {
+    pub line: usize,
+    pub path: Span,
+}
+
+// What a list says: the sizes, and for each file where its contents come from; a file with none is empty.
+#[derive(Clone, Copy)]
+pub struct DiscList {
+    pub sizes: Sizes,
+    pub puts: [Option<Put>; 64],
+}
+
+// What is wrong with a list.
+#[derive(Clone, Copy)]
+pub enum Reason {
+    UnknownWord,
+    NoNumber,
+    NoPath,
+    TooManyWords,
+    Twice(SizeName),
+    Missing(SizeName),
+    OutOfRange(SizeName),
+    FileTwice(u32),
+    NoSuchFile(u32),
+}
+
+// And where: its line; a size that is missing is missed behind the last.
+#[derive(Clone, Copy)]
+pub struct Fault {
+    pub line: usize,
+    pub reason: Reason,
+}
+
+// What one line says.
+#[derive(Clone, Copy)]
+pub(crate) enum Entry {
+    Nothing,
+    Size(SizeName, u32),
+    Put(u32, Span),
+    Wrong(Reason),
+}
+
+// What the lines so far have said: the sizes, the line in which each was given (0 if it was not), and the files.
+#[derive(Clone, Copy)]
+pub(crate) struct Draft {
+    sizes: Sizes,
+    lines: [usize; 10],
+    puts: [Option<Put>; 64],
+}
+
+// The word that begins at or behind a place.
+fn word_at(line: &[u8], from: usize) -> Span
+    requires { ⌜ from ≤ length (now line) ⌝ }
+    ensures place { λ r. ⌜ r ≡ span-at (now (line .entry)) from ⌝ }
+    ensures behind { λ r. ⌜ r .from ≤ r .to ⌝ }
+    ensures within { λ r. ⌜ r .to ≤ length (now (line .entry)) ⌝ }
+{
+    let from = find(line, from, Seek::Word);
+    let to = find(line, from, Seek::Blank);
+    Span { from, to }
+}
+
+// A size: its name, a number, and nothing more.
+fn size_entry(name: SizeName, value: Option<u32>, more: bool) -> Entry
+    ensures { λ r. ⌜ r ≡ size-entry name value more ⌝ }
+{
+    match value {
+        None => Entry::Wrong(Reason::NoNumber),
+        Some(n) => {
+            if more {
+                Entry::Wrong(Reason::TooManyWords)
+            } else {
+                Entry::Size(name, n)
+            }
+        }
+    }
+}
+
+// Contents: the number of a file, a path, and nothing more.
+fn put_entry(file: Option<u32>, path: Span, more: bool) -> Entry
+    ensures { λ r. ⌜ r ≡ put-entry file path more ⌝ }
+{
+    match file {
+        None => Entry::Wrong(Reason::NoNumber),
+        Some(f) => {
+            if path.from == path.to {
+                Entry::Wrong(Reason::NoPath)
+            } else if more {
+                Entry::Wrong(Reason::TooManyWords)
+            } else {
+                Entry::Put(f, path)
+            }
+        }
+    }
+}
+
+// What a line says, once its comment is gone.
+fn read_entry(line: &[u8]) -> Entry
+    ensures { λ r. ⌜ r ≡ entry-of (now (line .entry)) ⌝ }
+{
+    let first = word_at(line, 0);
+    if first.from == line.len() {
+        return Entry::Nothing;
+    }
+    let second = word_at(line, first.to);
+    let third = word_at(line, second.to);
+    let value = number(second.of(line));
+    let word = first.of(line);
+    if is(word, b"put") {
+        let more = word_at(line, third.to).from < line.len();
+        return put_entry(value, third, more);
+    }
+    match SizeName::of(word) {
+        None => Entry::Wrong(Reason::UnknownWord),
+        Some(name) => size_entry(name, value, third.from < line.len()),
+    }
+}
