@@ -18,13 +18,13 @@ use Rattle.inputs.specs.declared.lists.Reason.the-variants.{UnknownWord, NoNum
 use Rattle.inputs.specs.declared.lists.Entry.{Entry}
 use Rattle.inputs.specs.declared.lists.Entry.the-variants.{Nothing, Size, Put, Wrong}
 
--- the word that begins at or behind place i of a line
-abbrev pub span-at : List ℕ → ℕ → Span
-span-at line i = record { from = found Word line i; to = found Blank line (found Word line i) }
+-- the word of a text that begins at or behind place i, before place e
+abbrev pub span-at : List ℕ → ℕ → ℕ → Span
+span-at text i e = record { from = found Word text i e; to = found Blank text (found Word text i e) e }
 
 -- its bytes
 abbrev pub part : List ℕ → Span → List ℕ
-part line s = take (s .to - s .from) (drop (s .from) line)
+part text s = take (s .to - s .from) (drop (s .from) text)
 
 -- a size: its name, a number, and nothing more
 abbrev pub size-entry : SizeName → Option ℕ → Bool → Entry
@@ -36,19 +36,20 @@ abbrev pub put-entry : Option ℕ → Span → Bool → Entry
 put-entry None path more = Wrong NoNumber
 put-entry (Some f) path more = cond (eqb (path .from) (path .to)) (Wrong NoPath) (cond more (Wrong TooManyWords) (Put f path))
 
--- what a line says, once its comment is gone: by its first word, with the second and the third
-abbrev pub entry-by : List ℕ → Span → Span → Span → Entry
-entry-by line one two three =
-    cond (eqb (one .from) (length line)) Nothing
-    (cond (sameBytes (part line one) (codes "put")) (put-entry (number-of (part line two)) three (ltb (span-at line (three .to) .from) (length line)))
-    (elim (size-named (part line one)) [ None ↦ Wrong UnknownWord | Some name ↦ size-entry name (number-of (part line two)) (ltb (three .from) (length line)) ]))
+-- what a line says that ends before place e: by its first word, with the second and the third
+abbrev pub entry-by : List ℕ → ℕ → Span → Span → Span → Entry
+entry-by text e one two three =
+    cond (eqb (one .from) e) Nothing
+    (cond (sameBytes (part text one) (codes "put")) (put-entry (number-of (part text two)) three (ltb (span-at text (three .to) e .from) e))
+    (elim (size-named (part text one)) [ None ↦ Wrong UnknownWord | Some name ↦ size-entry name (number-of (part text two)) (ltb (three .from) e) ]))
 
-abbrev pub entry-of : List ℕ → Entry
-entry-of line = entry-by line (span-at line 0) (span-at line (span-at line 0 .to)) (span-at line (span-at line (span-at line 0 .to) .to))
+-- what the line says that is in a text from place i up to before e
+abbrev pub entry-of : List ℕ → ℕ → ℕ → Entry
+entry-of text i e = entry-by text e (span-at text i e) (span-at text (span-at text i e .to) e) (span-at text (span-at text (span-at text i e .to) e .to) e)
 
--- the line that begins at place i of a text, and what it holds before a comment
-abbrev pub line-at : List ℕ → ℕ → List ℕ
-line-at text i = take (found LineEnd text i - i) (drop i text)
-
-abbrev pub content : List ℕ → List ℕ
-content line = take (found Comment line 0) line
+-- a path that it names is a part of the text up to before e
+abbrev pub Ends-by : ℕ → Entry → Type 0
+Ends-by e Nothing = Unit {0}
+Ends-by e (Size name n) = Unit {0}
+Ends-by e (Put f s) = (s .from ≤ s .to) × (s .to ≤ e)
+Ends-by e (Wrong r) = Unit {0}

@@ -20,9 +20,9 @@ meets Word b = not (is-blank b)
 meets LineEnd b = eqb b 10
 meets Comment b = eqb b 35
 
--- the first place from i on where there is such a byte; the text's end if there is none
-abbrev pub found : Seek → List ℕ → ℕ → ℕ
-found s bs i = lowest-from (λ k. meets s (getD bs k 0)) i (length bs - i)
+-- the first place from i on and before e where there is such a byte; e if there is none
+abbrev pub found : Seek → List ℕ → ℕ → ℕ → ℕ
+found s bs i e = lowest-from (λ k. meets s (getD bs k 0)) i (e - i)
 
 -- a number with one decimal digit more; none if it is no digit, or 32 bits do not hold the number
 abbrev pub with-digit : ℕ → ℕ → Option ℕ

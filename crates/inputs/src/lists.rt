@@ -2,7 +2,7 @@
 ghost use mathlib.Core.Path.{_≡_};
 ghost use Prim.Native.Nat.{ℕ, _+_, _≤_, _<_};
 ghost use lib.ListN.{length, getD};
-ghost use Rattle.inputs.specs.Lists.{part, span-at, size-entry, put-entry, entry-of};
+ghost use Rattle.inputs.specs.Lists.{part, span-at, size-entry, put-entry, entry-of, Ends-by};
 use crate::names::SizeName;
 use crate::seeking::Seek;
 use crate::seeking::find;
@@ -82,15 +82,17 @@ pub(crate) struct Draft {
     puts: [Option<Put>; 64],
 }
 
-// The word that begins at or behind a place.
-fn word_at(line: &[u8], from: usize) -> Span
-    requires { ⌜ from ≤ length (now line) ⌝ }
-    ensures place { λ r. ⌜ r ≡ span-at (now (line .entry)) from ⌝ }
-    ensures behind { λ r. ⌜ r .from ≤ r .to ⌝ }
-    ensures within { λ r. ⌜ r .to ≤ length (now (line .entry)) ⌝ }
+// The word that begins at or behind a place, before another.
+fn word_at(text: &[u8], from: usize, to: usize) -> Span
+    requires order { ⌜ from ≤ to ⌝ }
+    requires within { ⌜ to ≤ length (now text) ⌝ }
+    ensures place { λ r. ⌜ r ≡ span-at (now (text .entry)) from to ⌝ }
+    ensures behind { λ r. ⌜ from ≤ r .from ⌝ }
+    ensures order { λ r. ⌜ r .from ≤ r .to ⌝ }
+    ensures within { λ r. ⌜ r .to ≤ to ⌝ }
 {
-    let from = find(line, from, Seek::Word);
-    let to = find(line, from, Seek::Blank);
+    let from = find(text, from, to, Seek::Word);
+    let to = find(text, from, to, Seek::Blank);
     Span { from, to }
 }
 
@@ -128,24 +130,27 @@ fn put_entry(file: Option<u32>, path: Span, more: bool) -> Entry
     }
 }
 
-// What a line says, once its comment is gone.
-fn read_entry(line: &[u8]) -> Entry
-    ensures { λ r. ⌜ r ≡ entry-of (now (line .entry)) ⌝ }
+// What the line says that is in a text from a place up to before another; its comment is not in there.
+fn read_entry(text: &[u8], from: usize, to: usize) -> Entry
+    requires order { ⌜ from ≤ to ⌝ }
+    requires within { ⌜ to ≤ length (now text) ⌝ }
+    ensures value { λ r. ⌜ r ≡ entry-of (now (text .entry)) from to ⌝ }
+    ensures within { λ r. ⌜ Ends-by to r ⌝ }
 {
-    let first = word_at(line, 0);
-    if first.from == line.len() {
+    let first = word_at(text, from, to);
+    if first.from == to {
         return Entry::Nothing;
     }
-    let second = word_at(line, first.to);
-    let third = word_at(line, second.to);
-    let value = number(second.of(line));
-    let word = first.of(line);
+    let second = word_at(text, first.to, to);
+    let third = word_at(text, second.to, to);
+    let value = number(second.of(text));
+    let word = first.of(text);
     if is(word, b"put") {
-        let more = word_at(line, third.to).from < line.len();
+        let more = word_at(text, third.to, to).from < to;
         return put_entry(value, third, more);
     }
     match SizeName::of(word) {
         None => Entry::Wrong(Reason::UnknownWord),
-        Some(name) => size_entry(name, value, third.from < line.len()),
+        Some(name) => size_entry(name, value, third.from < to),
     }
 }

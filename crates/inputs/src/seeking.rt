@@ -29,19 +29,20 @@ impl Seek {
     }
 }
 
-// The first place from `from` on where there is such a byte; the text's end if there is none.
-pub(crate) fn find(text: &[u8], from: usize, what: Seek) -> usize
-    requires { ⌜ from ≤ length (now text) ⌝ }
-    ensures place { λ r. ⌜ r ≡ found what (now (text .entry)) from ⌝ }
+// The first place from `from` on and before `to` where there is such a byte; `to` if there is none.
+pub(crate) fn find(text: &[u8], from: usize, to: usize, what: Seek) -> usize
+    requires order { ⌜ from ≤ to ⌝ }
+    requires within { ⌜ to ≤ length (now text) ⌝ }
+    ensures place { λ r. ⌜ r ≡ found what (now (text .entry)) from to ⌝ }
     ensures behind { λ r. ⌜ from ≤ r ⌝ }
-    ensures within { λ r. ⌜ r ≤ length (now (text .entry)) ⌝ }
+    ensures within { λ r. ⌜ r ≤ to ⌝ }
 {
-    for i in from..text.len() {
+    for i in from..to {
         if what.meets(text[i]) {
             return i;
         }
     }
-    text.len()
+    to
 }
 
 // A number with one decimal digit more; none if it is no digit, or 32 bits do not hold the number.

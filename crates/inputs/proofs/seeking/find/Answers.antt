@@ -1,7 +1,6 @@
 use mathlib.Core.Path.{_≡_, sym, ap, _∙_}
 use Prim.Native.Nat.{_≤_}
 use native.Mathlib.Omega.{arith}
-use lib.ListN.{length}
 use Rattle.bytes.proofs.Lowest.{lowest-here, lowest-next, lowest-end}
 use Rattle.inputs.proofs.seeking.find.Needs as need
 
@@ -18,7 +17,7 @@ loop-i-again c = sym (lowest-next _ _ _ (c .loop-i-test .taken) (sym (c .if-meet
 
 pub returns : need.returns
 returns c =
-    let e : c .loop-i .i ≡ length (c .args .text .now) = omega arith in
+    let e : c .loop-i .i ≡ c .args .to = omega arith in
     record {
       place = sym e ∙ sym (lowest-end _ _ _ (c .loop-i-test .left)) ∙ c .loop-i .inv;
       behind = omega arith;
