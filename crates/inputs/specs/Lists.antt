@@ -1,20 +1,25 @@
 -- What a list says, line by line. Assumes nothing: these are definitions.
+use mathlib.Core.Path.{_≡_}
 use mathlib.Core.Bool.{Bool, true, false, cond, not}
 use mathlib.Core.List.{List, [], _∷_}
 use Prim.Native.Nat.{ℕ, zero, suc, _+_, _-_, _%_, _<_, _≤_}
 use lib.Chars.{codes}
 use lib.Dec.{ltb, leb, eqb}
-use lib.ListN.{length, getD, set, take, drop}
+use lib.ListN.{length, getD, set, replicate, take, drop}
 use Rattle.std.specs.shelf.Text.{sameBytes}
 use Rattle.std.specs.declared.option.Option.{Option}
 use Rattle.std.specs.declared.option.Option.the-variants.{Some, None}
 use Rattle.inputs.specs.Texts.{found, number-of}
-use Rattle.inputs.specs.Names.{size-named}
+use Rattle.std.specs.Options.{isSome}
+use Rattle.std.specs.declared.result.Result.{Result}
+use Rattle.std.specs.declared.result.Result.the-variants.{Ok, Err}
+use Rattle.inputs.specs.Names.{size-named, place-of, with-size}
 use Rattle.inputs.specs.declared.names.SizeName.{SizeName}
 use Rattle.inputs.specs.declared.seeking.Seek.the-variants.{Blank, Word, LineEnd, Comment}
 use Rattle.inputs.specs.declared.lists.Span.{Span}
 use Rattle.inputs.specs.declared.lists.Reason.{Reason}
-use Rattle.inputs.specs.declared.lists.Reason.the-variants.{UnknownWord, NoNumber, NoPath, TooManyWords}
+use Rattle.inputs.specs.declared.lists.Reason.the-variants.{UnknownWord, NoNumber, NoPath, TooManyWords, Twice, Missing, FileTwice, NoSuchFile}
+use Rattle.inputs.specs.declared.lists.Draft.{Draft}
 use Rattle.inputs.specs.declared.lists.Entry.{Entry}
 use Rattle.inputs.specs.declared.lists.Entry.the-variants.{Nothing, Size, Put, Wrong}
 
@@ -53,3 +58,30 @@ Ends-by e Nothing = Unit {0}
 Ends-by e (Size name n) = Unit {0}
 Ends-by e (Put f s) = (s .from ≤ s .to) × (s .to ≤ e)
 Ends-by e (Wrong r) = Unit {0}
+
+-- nothing has been said yet
+abbrev pub unsaid : Draft
+unsaid =
+    record {
+      sizes = record { processes = 0; opens = 0; pipes = 0; handles = 0; memory = 0; pipe = 0; file = 0; files = 0; screens = 0; turn = 0 };
+      lines = replicate 10 0;
+      puts = replicate 64 None;
+    }
+
+-- a size is given in a line; it may not have been given before
+abbrev pub given : Draft → ℕ → SizeName → ℕ → Result Draft Reason
+given d line name n =
+    cond (eqb (getD (d .lines) (place-of name) 0) 0)
+    (Ok (record { sizes = with-size name n (d .sizes); lines = set (d .lines) (place-of name) line; puts = d .puts })) (Err (Twice name))
+
+-- the contents of a file are named in a line; they may not have been named before
+abbrev pub named : Draft → ℕ → ℕ → Span → Result Draft Reason
+named d line f path =
+    cond (ltb f 64)
+    (cond (isSome (getD (d .puts) f None)) (Err (FileTwice f)) (Ok (record { sizes = d .sizes; lines = d .lines; puts = set (d .puts) f (Some (record { line = line; path = path })) })))
+    (Err (NoSuchFile f))
+
+-- an answer, and what is said then; where it is wrong nothing is said of it
+abbrev pub Said : {X : Type 0} → Result X Reason → Result Draft Reason → Draft → Type 0
+Said (Ok x) e d = e ≡ Ok d
+Said (Err r) e d = e ≡ Err r

@@ -2,7 +2,7 @@
 ghost use mathlib.Core.Path.{_≡_};
 ghost use Prim.Native.Nat.{ℕ, _+_, _≤_, _<_};
 ghost use lib.ListN.{length, getD};
-ghost use Rattle.inputs.specs.Lists.{part, span-at, size-entry, put-entry, entry-of, Ends-by};
+ghost use Rattle.inputs.specs.Lists.{part, span-at, size-entry, put-entry, entry-of, Ends-by, unsaid, Said, given, named};
 use crate::names::SizeName;
 use crate::seeking::Seek;
 use crate::seeking::find;
@@ -152,5 +152,60 @@ fn read_entry(text: &[u8], from: usize, to: usize) -> Entry
     match SizeName::of(word) {
         None => Entry::Wrong(Reason::UnknownWord),
         Some(name) => size_entry(name, value, third.from < to),
+    }
+}
+
+impl Draft {
+    // Nothing has been said yet.
+    fn new() -> Draft
+        ensures { λ r. ⌜ r ≡ unsaid ⌝ }
+    {
+        let sizes = Sizes {
+            processes: 0,
+            opens: 0,
+            pipes: 0,
+            handles: 0,
+            memory: 0,
+            pipe: 0,
+            file: 0,
+            files: 0,
+            screens: 0,
+            turn: 0,
+        };
+        Draft {
+            sizes,
+            lines: [0; 10],
+            puts: [None; 64],
+        }
+    }
+
+    // A size is given in a line; it may not have been given before.
+    fn give(&mut self, line: usize, name: SizeName, n: u32) -> Result<(), Reason>
+        requires { ⌜ length (now self .lines) ≡ 10 ⌝ }
+        ensures value { λ r. ⌜ Said r (given (now (self .entry)) line name n) (now (self .exit)) ⌝ }
+    {
+        let place = name.place();
+        if self.lines[place] != 0 {
+            return Err(Reason::Twice(name));
+        }
+        self.lines[place] = line;
+        name.put(&mut self.sizes, n);
+        Ok(())
+    }
+
+    // The contents of a file are named in a line; they may not have been named before.
+    fn name(&mut self, line: usize, file: u32, path: Span) -> Result<(), Reason>
+        requires { ⌜ length (now self .puts) ≡ 64 ⌝ }
+        ensures value { λ r. ⌜ Said r (named (now (self .entry)) line file path) (now (self .exit)) ⌝ }
+    {
+        if file >= 64 {
+            return Err(Reason::NoSuchFile(file));
+        }
+        let place = file as usize;
+        if self.puts[place].is_some() {
+            return Err(Reason::FileTwice(file));
+        }
+        self.puts[place] = Some(Put { line, path });
+        Ok(())
     }
 }
