@@ -2,7 +2,8 @@
 ghost use mathlib.Core.Path.{_≡_};
 ghost use Prim.Native.Nat.{ℕ, _+_, _≤_, _<_};
 ghost use lib.ListN.{length, getD};
-ghost use Rattle.inputs.specs.Lists.{part, span-at, size-entry, put-entry, entry-of, Ends-by, unsaid, Said, given, named};
+ghost use Rattle.std.specs.Vec.{made};
+ghost use Rattle.inputs.specs.Lists.{part, span-at, size-entry, put-entry, entry-of, Ends-by, unsaid, Said, given, named, said, first-missing, is-strange, first-strange, finished, list-of, Paths-within};
 use crate::names::SizeName;
 use crate::seeking::Seek;
 use crate::seeking::find;
@@ -41,6 +42,8 @@ pub struct Put {
 #[derive(Clone, Copy)]
 pub struct DiscList {
     pub sizes: Sizes,
+    // the line in which each size was given
+    pub lines: [usize; 10],
     pub puts: [Option<Put>; 64],
 }
 
@@ -208,4 +211,103 @@ impl Draft {
         self.puts[place] = Some(Put { line, path });
         Ok(())
     }
+
+    // What a line says is added.
+    fn add(&mut self, line: usize, entry: Entry) -> Result<(), Reason>
+        requires lines { ⌜ length (now self .lines) ≡ 10 ⌝ }
+        requires puts { ⌜ length (now self .puts) ≡ 64 ⌝ }
+        ensures value { λ r. ⌜ Said r (said (now (self .entry)) line entry) (now (self .exit)) ⌝ }
+    {
+        match entry {
+            Entry::Nothing => Ok(()),
+            Entry::Size(name, n) => self.give(line, name, n),
+            Entry::Put(file, path) => self.name(line, file, path),
+            Entry::Wrong(reason) => Err(reason),
+        }
+    }
+
+    // The place of the first size that was not given; 10 if all were.
+    fn missing(&self) -> usize
+        requires { ⌜ length (now self .lines) ≡ 10 ⌝ }
+        ensures { λ r. ⌜ r ≡ first-missing (now (self .entry)) ⌝ }
+    {
+        for i in 0..10 {
+            if self.lines[i] == 0 {
+                return i;
+            }
+        }
+        10
+    }
+
+    // Whether a file has contents, and there is no such file.
+    fn is_strange(&self, f: usize) -> bool
+        requires puts { ⌜ length (now self .puts) ≡ 64 ⌝ }
+        requires within { ⌜ f < 64 ⌝ }
+        ensures { λ r. ⌜ r ≡ is-strange (now (self .entry)) f ⌝ }
+    {
+        self.puts[f].is_some() && f as u32 >= self.sizes.files
+    }
+
+    // The number of the first such file; 64 if there is none.
+    fn strange(&self) -> usize
+        requires { ⌜ length (now self .puts) ≡ 64 ⌝ }
+        ensures { λ r. ⌜ r ≡ first-strange (now (self .entry)) ⌝ }
+    {
+        for f in 0..64 {
+            if self.is_strange(f) {
+                return f;
+            }
+        }
+        64
+    }
+
+    // What the list says, if nothing is missing; `line` is the one behind the last.
+    fn finish(&self, line: usize) -> Result<DiscList, Fault>
+        requires lines { ⌜ length (now self .lines) ≡ 10 ⌝ }
+        requires puts { ⌜ length (now self .puts) ≡ 64 ⌝ }
+        ensures { λ r. ⌜ r ≡ finished (now (self .entry)) line ⌝ }
+    {
+        let place = self.missing();
+        if place < 10 {
+            let reason = Reason::Missing(SizeName::at(place));
+            return Err(Fault { line, reason });
+        }
+        let file = self.strange();
+        if file < 64 {
+            let line = match self.puts[file] {
+                Some(put) => put.line,
+                None => 0,
+            };
+            let reason = Reason::NoSuchFile(file as u32);
+            return Err(Fault { line, reason });
+        }
+        let lines = self.lines;
+        let puts = self.puts;
+        Ok(DiscList {
+            sizes: self.sizes,
+            lines,
+            puts,
+        })
+    }
+}
+
+// What a list says, or the first thing that is wrong with it; paths are parts of its text.
+pub fn read_list(text: &[u8]) -> Result<DiscList, Fault>
+    ensures value { λ r. ⌜ r ≡ list-of (now (text .entry)) ⌝ }
+    ensures paths { λ r. ⌜ made r (λ l. Paths-within (length (now (text .entry))) (l .puts)) ⌝ }
+{
+    let mut draft = Draft::new();
+    let mut line = 1;
+    let mut i = 0;
+    while i < text.len() {
+        let end = find(text, i, text.len(), Seek::LineEnd);
+        let to = find(text, i, end, Seek::Comment);
+        match draft.add(line, read_entry(text, i, to)) {
+            Ok(()) => {}
+            Err(reason) => return Err(Fault { line, reason }),
+        }
+        line += 1;
+        i = end + 1;
+    }
+    draft.finish(line)
 }
