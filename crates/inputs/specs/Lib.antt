@@ -2,3 +2,4 @@ pub mod Events
 pub mod Texts
 pub mod Names
 pub mod Lists
+pub mod Scripts

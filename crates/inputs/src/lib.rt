@@ -2,4 +2,5 @@
 pub mod events;
 pub mod lists;
 pub mod names;
+pub mod scripts;
 mod seeking;

@@ -86,7 +86,7 @@ pub(crate) struct Draft {
 }
 
 // The word that begins at or behind a place, before another.
-fn word_at(text: &[u8], from: usize, to: usize) -> Span
+pub(crate) fn word_at(text: &[u8], from: usize, to: usize) -> Span
     requires order { ⌜ from ≤ to ⌝ }
     requires within { ⌜ to ≤ length (now text) ⌝ }
     ensures place { λ r. ⌜ r ≡ span-at (now (text .entry)) from to ⌝ }
