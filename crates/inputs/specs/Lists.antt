@@ -14,6 +14,7 @@ use Rattle.inputs.specs.Texts.{found, number-of}
 use Rattle.std.specs.Options.{isSome}
 use Rattle.std.specs.declared.result.Result.{Result}
 use Rattle.std.specs.declared.result.Result.the-variants.{Ok, Err}
+use Rattle.inputs.specs.Lines.{line-end, all-lines}
 use Rattle.inputs.specs.Names.{size-named, place-of, name-at, with-size}
 use Rattle.inputs.specs.declared.names.SizeName.{SizeName}
 use Rattle.inputs.specs.declared.seeking.Seek.the-variants.{Blank, Word, LineEnd, Comment}
@@ -123,31 +124,21 @@ finished d line =
     (cond (ltb (first-strange d) 64) (Err (record { line = line-of (getD (d .puts) (first-strange d) None); reason = NoSuchFile (first-strange d) }))
     (Ok (record { sizes = d .sizes; lines = d .lines; puts = d .puts })))
 
--- the line that begins at place i of a text ends before this place; before that, its comment begins, if it has one
-abbrev pub line-end : List ℕ → ℕ → ℕ
-line-end text i = found LineEnd text i (length text)
-
+-- the line that begins at place i of a text ends before this place, or earlier, where its comment begins
 abbrev pub content-end : List ℕ → ℕ → ℕ
 content-end text i = found Comment text i (line-end text i)
 
--- what is wrong is wrong in its line; else one goes on
-abbrev pub goes-on : ℕ → Result Draft Reason → (Draft → Result DiscList Fault) → Result DiscList Fault
-goes-on line (Err r) next = Err (record { line = line; reason = r })
-goes-on line (Ok d) next = next d
+-- what the line that begins at place i makes of a draft
+abbrev pub list-step : List ℕ → ℕ → ℕ → Draft → Result Draft Reason
+list-step text line i d = said d line (entry-of text i (content-end text i))
 
--- what the lines from place i on say behind a draft; the first of them is number `line`, and there are at most n
-unfoldable pub list-in : ℕ → List ℕ → ℕ → ℕ → Draft → Result DiscList Fault
-list-in zero text i line d = finished d line
-list-in (suc n) text i line d =
-    cond (leb (length text) i) (finished d line)
-    (goes-on line (said d line (entry-of text i (content-end text i))) (λ e. list-in n text (line-end text i + 1) (line + 1) e))
+-- WHAT A LIST SAYS: what its lines say, if nothing is missing; or the first thing that is wrong
+abbrev pub list-by : Result (ℕ × Draft) (ℕ × Reason) → Result DiscList Fault
+list-by (Ok d) = finished (d .1) (d .0)
+list-by (Err w) = Err (record { line = w .0; reason = w .1 })
 
-unfoldable pub list-from : List ℕ → ℕ → ℕ → Draft → Result DiscList Fault
-list-from text i line d = list-in (length text) text i line d
-
--- WHAT A LIST SAYS
 unfoldable pub list-of : List ℕ → Result DiscList Fault
-list-of text = list-from text 0 1 unsaid
+list-of text = list-by (all-lines text (list-step text) unsaid)
 
 -- paths are parts of a text that has n bytes
 abbrev pub Paths-within : ℕ → List (Option Put) → Type 0

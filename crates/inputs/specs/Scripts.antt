@@ -1,7 +1,7 @@
 -- What a script says, line by line. Assumes nothing: these are definitions.
 use mathlib.Core.Path.{_≡_}
 use mathlib.Core.Bool.{Bool, true, false, cond, _&&_, _||_}
-use mathlib.Core.List.{List, [], _∷_}
+use mathlib.Core.List.{List, [], _∷_, _++_}
 use Prim.Native.Nat.{ℕ, zero, suc, _+_, _-_}
 use lib.Chars.{codes}
 use lib.Dec.{ltb, leb, eqb}
@@ -9,13 +9,24 @@ use lib.ListN.{length, getD, take, drop}
 use Rattle.std.specs.shelf.Text.{sameBytes}
 use Rattle.std.specs.declared.option.Option.{Option}
 use Rattle.std.specs.declared.option.Option.the-variants.{Some, None}
+use Rattle.std.specs.Joined.{joined}
+use Rattle.std.specs.Of.Vec.{vec-items}
+use Rattle.std.specs.declared.vec.Vec.{Vec}
+use Rattle.std.specs.declared.alloc.Global.{Global}
+use Rattle.std.specs.declared.result.Result.{Result}
+use Rattle.std.specs.declared.result.Result.the-variants.{Ok, Err}
+use Rattle.inputs.specs.declared.scripts.ScriptError.{ScriptError}
+use Rattle.inputs.specs.declared.scripts.ScriptError.the-variants as error
+use Rattle.turns.specs.Numbers.{input-bytes}
 use Rattle.turns.specs.declared.vocabulary.Input.{Input}
 use Rattle.turns.specs.declared.vocabulary.Input.the-variants.{Ticks, Key, Cut}
 use Rattle.inputs.specs.Texts.{number-of}
+use Rattle.inputs.specs.Lines.{line-end, all-lines}
 use Rattle.inputs.specs.Lists.{span-at, part}
 use Rattle.inputs.specs.declared.lists.Span.{Span}
 use Rattle.inputs.specs.declared.scripts.Line.{Line}
 use Rattle.inputs.specs.declared.scripts.Line.the-variants.{Nothing, Feed, Bad}
+use Rattle.inputs.specs.declared.scripts.Wrong.{Wrong}
 use Rattle.inputs.specs.declared.scripts.Wrong.the-variants.{UnknownWord, NoNumber, NoByte, NoKey, TooManyWords}
 
 -- a number that is a byte
@@ -66,3 +77,23 @@ line-by text e one two three =
 abbrev pub line-of : List ℕ → ℕ → ℕ → Line
 line-of text i e =
     cond (is-over text i e) Nothing (line-by text e (span-at text i e) (span-at text (span-at text i e .to) e) (span-at text (span-at text (span-at text i e .to) e .to) e))
+
+-- what a line brings behind inputs that there are, or that it is wrong
+abbrev pub brings : Line → List Input → Result (List Input) Wrong
+brings Nothing is = Ok is
+brings (Feed x) is = Ok (is ++ x ∷ [])
+brings (Bad w) is = Err w
+
+-- what the line that begins at place i makes of inputs that there are
+abbrev pub script-step : List ℕ → ℕ → ℕ → List Input → Result (List Input) Wrong
+script-step text line i is = brings (line-of text i (line-end text i)) is
+
+-- WHAT A SCRIPT SAYS: inputs, with the number of the line behind the last; or the first line that is wrong
+unfoldable pub script-of : List ℕ → Result (ℕ × List Input) (ℕ × Wrong)
+script-of text = all-lines text (script-step text) []
+
+-- it was read: its inputs, each written out, one after the other; or the first line that is wrong; nothing is said where memory was wanting
+abbrev pub Script-read : List ℕ → Result (Vec ℕ Global) ScriptError → Type 0
+Script-read text (Ok v) = (n : ℕ) × (is : List Input) × (script-of text ≡ Ok (n, is)) × (vec-items v ≡ joined input-bytes is)
+Script-read text (Err (error.Line line w)) = script-of text ≡ Err (line, w)
+Script-read text (Err error.NoMemory) = Unit {0}

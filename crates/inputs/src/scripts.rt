@@ -8,12 +8,15 @@ ghost use Rattle.std.specs.Of.Vec.{vec-items};
 ghost use Rattle.std.specs.Vec.{made};
 ghost use Rattle.turns.specs.Numbers.{input-bytes};
 ghost use Rattle.inputs.specs.Lists.{part};
-ghost use Rattle.inputs.specs.Scripts.{byte-of, is-printable, is-numbered, key-of, is-over, ticks-line, key-line, cut-line, line-of};
+ghost use Rattle.inputs.specs.Scripts.{byte-of, is-printable, is-numbered, key-of, is-over, ticks-line, key-line, cut-line, line-of, Script-read};
 use crate::lists::Span;
 use crate::lists::word_at;
+use crate::seeking::Seek;
+use crate::seeking::find;
 use crate::seeking::is;
 use crate::seeking::number;
 use std::alloc::AllocError;
+use std::alloc::Global;
 use turns::vocabulary::Input;
 
 // What is wrong with a line of a script.
@@ -155,4 +158,51 @@ fn read_line(text: &[u8], from: usize, to: usize) -> Line
         return cut_line(number(second.of(text)), byte_of(third.of(text)), over);
     }
     Line::Bad(Wrong::UnknownWord)
+}
+
+// Why a script is not read: a line is wrong, or there is no memory for its events.
+#[derive(Clone, Copy)]
+pub enum ScriptError {
+    Line(usize, Wrong),
+    NoMemory,
+}
+
+// The bytes of an input are put behind others.
+fn push_input(out: &mut Vec<u8>, input: Input) -> Result<(), AllocError>
+    ensures { λ r. ⌜ made r (λ _. vec-items (now (out .exit)) ≡ vec-items (now (out .entry)) ++ input-bytes input) ⌝ }
+{
+    match input {
+        Input::Ticks(n) => {
+            let [a, b, c, d] = n.to_le_bytes();
+            out.extend_from_slice(&[0, a, b, c, d])
+        }
+        Input::Key(t, b) => out.extend_from_slice(&[1, t, b]),
+        Input::Cut(m, x) => {
+            let [a, b, c, d] = m.to_le_bytes();
+            out.extend_from_slice(&[2, a, b, c, d, x])
+        }
+    }
+}
+
+// The events of a script as a row of bytes, or the first line that is wrong.
+pub fn read_script(heap: Global, text: &[u8]) -> Result<Vec<u8>, ScriptError>
+    ensures { λ r. ⌜ Script-read (now (text .entry)) r ⌝ }
+{
+    let mut out = Vec::new(heap);
+    let mut line = 1;
+    let mut i = 0;
+    while i < text.len() {
+        let end = find(text, i, text.len(), Seek::LineEnd);
+        match read_line(text, i, end) {
+            Line::Nothing => {}
+            Line::Feed(input) => match push_input(&mut out, input) {
+                Ok(()) => {}
+                Err(_) => return Err(ScriptError::NoMemory),
+            },
+            Line::Bad(wrong) => return Err(ScriptError::Line(line, wrong)),
+        }
+        line += 1;
+        i = end + 1;
+    }
+    Ok(out)
 }
