@@ -56,7 +56,6 @@ pub enum Reason {
     TooManyWords,
     Twice(SizeName),
     Missing(SizeName),
-    OutOfRange(SizeName),
     FileTwice(u32),
     NoSuchFile(u32),
 }
