@@ -1,0 +1,4 @@
+pub mod Slotting
+pub mod Moving
+pub mod Parts
+pub mod Filling

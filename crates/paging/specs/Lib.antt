@@ -1,0 +1,4 @@
+pub mod Tables
+pub mod Pages
+pub mod Changes
+pub mod Frames
