@@ -15,3 +15,6 @@ module _ (xs ys : List ℕ) (a e : ℕ) (long : length ys ≡ e - a) (le : a ≤
 
   pub part-else : Else-kept a e xs (putMid a (e - a) xs ys)
   part-else = record { low = λ k h. search (needs, places); high = λ k h. search (needs, places) }
+
+  pub part-long : length (putMid a (e - a) xs ys) ≡ length xs
+  part-long = search (needs, places)

@@ -2,3 +2,4 @@ pub mod Tables
 pub mod Pages
 pub mod Changes
 pub mod Frames
+pub mod Accesses

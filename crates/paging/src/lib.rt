@@ -5,6 +5,9 @@ mod slots;
 mod stack;
 mod frames;
 mod fills;
+mod lives;
+mod accesses;
+mod runs;
 
 // Which processes have pages. A process has all its pages while it runs, and none else; in between, as it begins or ends, it has the first few.
 #[derive(Clone, Copy)]
