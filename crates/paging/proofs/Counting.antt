@@ -41,7 +41,7 @@ unfolding lacking
 lacking-set m zero hs p v h l b d = absurd (omega arith)
 lacking-set m (suc n) hs p v h l b d =
     ⊎-elim (λ (e : p ≡ n). rw (← e, getD-set-same hs p v 0 l, lacking-past m p hs p v (omega arith)) (omega arith))
-      (λ (ne : p ≢ n). let o : n ≢ p = λ e. ne (sym e) in rw (getD-set-other hs p n v 0 o) (omega (arith, lacking-set m n hs p v (omega arith) l b d))) (cases-eq p n)
+    (λ (ne : p ≢ n). let o : n ≢ p = λ e. ne (sym e) in rw (getD-set-other hs p n v 0 o) (omega (arith, lacking-set m n hs p v (omega arith) l b d))) (cases-eq p n)
 
 module _ (z : Sizes) (g : Paging) (u : Enough z g) (rows : length (g .pages) ≡ 64) (p : ℕ) (h : p < z .processes) where
   -- a process without pages finds them
@@ -51,11 +51,20 @@ module _ (z : Sizes) (g : Paging) (u : Enough z g) (rows : length (g .pages) ≡
   -- the equation lasts where a process gets its pages, or gives them back
   pub enough-with : (n : ℕ) → n ≤ z .memory / 4096 → held g p ≤ z .memory / 4096 → Enough z (with-pages g p n)
   enough-with n l d =
-      record { processes = u .processes; small = u .small; whole = u .whole;
-        free = omega (arith, u .free, lacking-set (z .memory / 4096) (z .processes) (g .pages) p n h (omega (arith, u .processes)) l d) }
+      record {
+        processes = u .processes;
+        small = u .small;
+        whole = u .whole;
+        free = omega (arith, u .free, lacking-set (z .memory / 4096) (z .processes) (g .pages) p n h (omega (arith, u .processes)) l d);
+      }
 
   -- the stack never grows past its room
   pub enough-low : held g p ≤ z .memory / 4096 → g .free + held g p ≤ 16384
   enough-low d =
-      omega (arith, u .free, lacking-set (z .memory / 4096) (z .processes) (g .pages) p 0 h (omega (arith, u .processes)) (omega arith) d,
-        lacking-le (z .memory / 4096) (z .processes) (set (g .pages) p 0), mul-le-mul {n₁ = z .processes} {m₁ = z .memory / 4096} {n₂ = 64} {m₂ = 256} (u .processes) (omega (arith, u .small)))
+      omega (
+        arith,
+        u .free,
+        lacking-set (z .memory / 4096) (z .processes) (g .pages) p 0 h (omega (arith, u .processes)) (omega arith) d,
+        lacking-le (z .memory / 4096) (z .processes) (set (g .pages) p 0),
+        mul-le-mul {n₁ = z .processes} {m₁ = z .memory / 4096} {n₂ = 64} {m₂ = 256} (u .processes) (omega (arith, u .small)),
+      )

@@ -45,9 +45,15 @@ module _ (g : Paging) (f e : List ℕ) (s : Sound g f) (kept : Tables-kept f e) 
   -- the tables are in order where they stay
   pub sound-kept : length e ≡ length f → Sound g e
   sound-kept l =
-      record { rows = s .rows; few = s .few; low = s .low; long = omega (arith, s .long); tops = tops-kept;
+      record {
+        rows = s .rows;
+        few = s .few;
+        low = s .low;
+        long = omega (arith, s .long);
+        tops = tops-kept;
         usable = λ t u. rw (slot-kept t u, l) (s .usable t u);
-        apart = λ t v u w same. s .apart t v u w (sym (slot-kept t u) ∙ same ∙ slot-kept v w) }
+        apart = λ t v u w same. s .apart t v u w (sym (slot-kept t u) ∙ same ∙ slot-kept v w);
+      }
 
 -- where bytes lie
 module _ (g : Paging) (f : List ℕ) (s : Sound g f) where
@@ -87,15 +93,17 @@ module _ (g : Paging) (f e : List ℕ) (p i n : ℕ) (v : ℕ → ℕ) (s : Soun
   unfolding byte-of place
   out-of-frame q a t ne =
       rw (place-kept g f e s kept-frame q a t)
-        (⊎-elim (λ (d : frame-of f q (a / 4096) ≡ frame-of f p i). let same = s .apart (page q (a / 4096)) (page p i) t u d in absurd (ne ((cc), (cc))))
-          (λ o. ⊎-elim
-            (λ (l : frame-of f q (a / 4096) < frame-of f p i). rest .low _ (omega arith))
-            (λ (l : frame-of f p i < frame-of f q (a / 4096)). rest .high _ (omega arith)) o)
-          (cases-order (frame-of f q (a / 4096)) (frame-of f p i)))
+      (⊎-elim (λ (d : frame-of f q (a / 4096) ≡ frame-of f p i). let same = s .apart (page q (a / 4096)) (page p i) t u d in absurd (ne ((cc), (cc))))
+      (λ o. ⊎-elim
+      (λ (l : frame-of f q (a / 4096) < frame-of f p i). rest .low _ (omega arith))
+      (λ (l : frame-of f p i < frame-of f q (a / 4096)). rest .high _ (omega arith)) o)
+      (cases-order (frame-of f q (a / 4096)) (frame-of f p i)))
 
   pub frame-filled : ((a : ℕ) → a / 4096 ≡ i → getD e (n * 4096 + a % 4096) 0 ≡ v a) → Filled g f e p i v
   frame-filled here =
-      record { here = λ a d. in-frame a d (here a d);
+      record {
+        here = λ a d. in-frame a d (here a d);
         same = λ a ne t. out-of-frame p a t (λ b. ne (b .1));
         others = record { bytes = λ q a ne t. out-of-frame q a t (λ b. ne (b .0)); caches = λ q c ne m. caches-kept g f e s kept-frame q c m };
-        caches = caches-kept g f e s kept-frame }
+        caches = caches-kept g f e s kept-frame;
+      }

@@ -44,17 +44,22 @@ begun-more g h k f e d c p i v w s hp room b st kept sound fill same =
       state = st ∙ ap (λ n. with-pages h p (n + 1)) has ∙ ap (λ x. with-pages x p (i + 1)) (b .state) ∙ with-twice g p i (i + 1) (s .rows) hp room;
       sound = sound;
       here = λ a l. ⊎-elim (λ (o : a / 4096 ≡ i). fill .here a o ∙ same a o)
-        (λ (o : a / 4096 ≢ i). let n : a / 4096 < i = omega arith in fill .same a o (hp, omega (arith, got)) ∙ kept .bytes p a (hp, omega (arith, has)) ∙ b .here a n) (cases-eq (a / 4096) i);
+          (λ (o : a / 4096 ≢ i). let n : a / 4096 < i = omega arith in fill .same a o (hp, omega (arith, got)) ∙ kept .bytes p a (hp, omega (arith, has)) ∙ b .here a n) (cases-eq (a / 4096) i);
       others = record {
         bytes = λ q a ne t. fill .others .bytes q a ne (t .0, omega (arith, t .1, other q ne, later q ne)) ∙ kept .bytes q a (t .0, omega (arith, t .1, other q ne)) ∙ b .others .bytes q a ne t;
-        caches = λ q c ne m. fill .caches q c (kept .caches q c (b .others .caches q c ne m)) } }
+        caches = λ q c ne m. fill .caches q c (kept .caches q c (b .others .caches q c ne m));
+      };
+    }
   where
     has : held h p ≡ i
     has = held-same g h p i (ap (λ x. x .pages) (b .state)) (s .rows) hp
+
     got : held k p ≡ i + 1
     got = held-same h k p (held h p + 1) (ap (λ x. x .pages) st) (b .sound .rows) hp ∙ ap (λ n. n + 1) has
+
     other : (q : ℕ) → q ≢ p → held h q ≡ held g q
     other q ne = held-other g h p i q (ap (λ x. x .pages) (b .state)) ne
+
     later : (q : ℕ) → q ≢ p → held k q ≡ held h q
     later q ne = held-other h k p (held h p + 1) q (ap (λ x. x .pages) st) ne
 
@@ -67,10 +72,13 @@ ended-more g h k f e d p n m s hp room less b st sound others =
       sound = sound;
       others = record {
         bytes = λ q a ne t. others .bytes q a ne (t .0, omega (arith, t .1, other q ne)) ∙ b .others .bytes q a ne t;
-        caches = λ q c ne m. others .caches q c ne (b .others .caches q c ne m) } }
+        caches = λ q c ne m. others .caches q c ne (b .others .caches q c ne m);
+      };
+    }
   where
     has : held h p ≡ n
     has = held-same g h p n (ap (λ x. x .pages) (b .state)) (s .rows) hp
+
     other : (q : ℕ) → q ≢ p → held h q ≡ held g q
     other q ne = held-other g h p n q (ap (λ x. x .pages) (b .state)) ne
 

@@ -57,10 +57,10 @@ module _ (g h : Paging) (f e : List ℕ) (s : Sound g f) (new old : Slot) (io : 
   unfolding From
   moved-apart t v u w same =
       ⊎-elim
-        (λ (d : t ≡ new). ⊎-elim (λ (b : v ≡ new). d ∙ sym b) (λ k. absurd (k .1 (sym (s .apart old v io (k .0) (sym is ∙ ap (frame-at e) (sym d) ∙ same ∙ k .2))))) (each v w))
-        (λ k. ⊎-elim (λ (b : v ≡ new). absurd (k .1 (s .apart t old (k .0) io (sym (k .2) ∙ same ∙ ap (frame-at e) b ∙ is))))
-          (λ j. s .apart t v (k .0) (j .0) (sym (k .2) ∙ same ∙ j .2)) (each v w))
-        (each t u)
+      (λ (d : t ≡ new). ⊎-elim (λ (b : v ≡ new). d ∙ sym b) (λ k. absurd (k .1 (sym (s .apart old v io (k .0) (sym is ∙ ap (frame-at e) (sym d) ∙ same ∙ k .2))))) (each v w))
+      (λ k. ⊎-elim (λ (b : v ≡ new). absurd (k .1 (s .apart t old (k .0) io (sym (k .2) ∙ same ∙ ap (frame-at e) b ∙ is))))
+      (λ j. s .apart t v (k .0) (j .0) (sym (k .2) ∙ same ∙ j .2)) (each v w))
+      (each t u)
 
 -- the topmost free frame becomes the next page of process p
 module _ (g h : Paging) (f e : List ℕ) (p n : ℕ) (s : Sound g f) (hp : p < 64) (room : held g p < 256) (some : 0 < g .free) (less : h .free ≡ g .free - 1)
@@ -69,18 +69,20 @@ module _ (g h : Paging) (f e : List ℕ) (p n : ℕ) (s : Sound g f) (hp : p < 6
   unfolding From
   given-each (page q j) u =
       ⊎-elim
-        (λ (d : q ≡ p). ⊎-elim (λ (b : j ≡ held g p). inl (rw (d, b)))
-          (λ (ne : j ≢ held g p).
-            let l : j < held g q = omega (arith, u .1, held-same g h p (held g p + 1) more (s .rows) hp, ap (held h) d, ap (held g) d) in
-            inr ((u .0, l), (λ b. tells b), put .same (page q j) (u .0, omega (arith, s .few q)) (λ b. ne (second b)))) (cases-eq j (held g p)))
-        (λ (ne : q ≢ p).
-          let l : j < held g q = omega (arith, u .1, held-other g h p (held g p + 1) q more ne) in
-          inr ((u .0, l), (λ b. tells b), put .same (page q j) (u .0, omega (arith, s .few q)) (λ b. ne (first b)))) (cases-eq q p)
+      (λ (d : q ≡ p). ⊎-elim (λ (b : j ≡ held g p). inl (rw (d, b)))
+      (λ (ne : j ≢ held g p).
+      let l : j < held g q = omega (arith, u .1, held-same g h p (held g p + 1) more (s .rows) hp, ap (held h) d, ap (held g) d) in
+      inr ((u .0, l), (λ b. tells b), put .same (page q j) (u .0, omega (arith, s .few q)) (λ b. ne (second b)))) (cases-eq j (held g p)))
+      (λ (ne : q ≢ p).
+      let l : j < held g q = omega (arith, u .1, held-other g h p (held g p + 1) q more ne) in
+      inr ((u .0, l), (λ b. tells b), put .same (page q j) (u .0, omega (arith, s .few q)) (λ b. ne (first b)))) (cases-eq q p)
     where
       first : {a b c d : ℕ} → page a b ≡ page c d → a ≡ c
       first e = cc
+
       second : {a b c d : ℕ} → page a b ≡ page c d → b ≡ d
       second e = cc
+
       tells : {a b c : ℕ} → page a b ≡ free c → ⊥
       tells e = let z : _≡_ {A = ℕ} 0 1 = cc in omega arith
   given-each (free k) u =
@@ -88,24 +90,29 @@ module _ (g h : Paging) (f e : List ℕ) (p n : ℕ) (s : Sound g f) (hp : p < 6
 
   pub given-sound : Sound h e
   given-sound =
-      record { rows = ap length more ∙ length-set (g .pages) p (held g p + 1) ∙ s .rows;
+      record {
+        rows = ap length more ∙ length-set (g .pages) p (held g p + 1) ∙ s .rows;
         few = few-set g h f p (held g p + 1) s more hp (omega arith);
         low = omega (arith, s .low);
         long = omega (arith, s .long);
         tops = put .tops;
         usable = moved-usable g h f e s (page p (held g p)) (free (g .free - 1)) (omega arith) (put .here ∙ is) long given-each;
-        apart = moved-apart g h f e s (page p (held g p)) (free (g .free - 1)) (omega arith) (put .here ∙ is) long given-each }
+        apart = moved-apart g h f e s (page p (held g p)) (free (g .free - 1)) (omega arith) (put .here ∙ is) long given-each;
+      }
 
   given-page : (q i : ℕ) → (q < 64) × (i < held g q) → (i < held h q) × (frame-of e q i ≡ frame-of f q i)
-  given-page q i u =
-      (⊎-elim (λ (d : q ≡ p). omega (arith, u .1, held-same g h p (held g p + 1) more (s .rows) hp, ap (held h) d, ap (held g) d))
-          (λ (ne : q ≢ p). omega (arith, u .1, held-other g h p (held g p + 1) q more ne)) (cases-eq q p),
-        put .same (page q i) (u .0, omega (arith, u .1, s .few q)) (λ b. let x : q ≡ p = cc in let y : i ≡ held g p = cc in omega (arith, u .1, ap (held g) x)))
+  given-page q i u = (
+    ⊎-elim (λ (d : q ≡ p). omega (arith, u .1, held-same g h p (held g p + 1) more (s .rows) hp, ap (held h) d, ap (held g) d))
+        (λ (ne : q ≢ p). omega (arith, u .1, held-other g h p (held g p + 1) q more ne)) (cases-eq q p),
+    put .same (page q i) (u .0, omega (arith, u .1, s .few q)) (λ b. let x : q ≡ p = cc in let y : i ≡ held g p = cc in omega (arith, u .1, ap (held g) x)),
+  )
 
   pub given-kept : Kept g f h e
   given-kept =
-      record { bytes = λ q a u. byte-kept f e q a (put .above) (s .usable (page q (a / 4096)) u .0) (given-page q (a / 4096) u .1);
-        caches = λ q c m. cache-kept g h f e q c (given-page q) m }
+      record {
+        bytes = λ q a u. byte-kept f e q a (put .above) (s .usable (page q (a / 4096)) u .0) (given-page q (a / 4096) u .1);
+        caches = λ q c m. cache-kept g h f e q c (given-page q) m;
+      }
 
 -- the last page of process p becomes a free frame
 module _ (g h : Paging) (f e : List ℕ) (p n : ℕ) (s : Sound g f) (hp : p < 64) (some : 0 < held g p) (room : g .free < 16384) (more : h .free ≡ g .free + 1)
@@ -113,7 +120,7 @@ module _ (g h : Paging) (f e : List ℕ) (p n : ℕ) (s : Sound g f) (hp : p < 6
   taken-held : (q j : ℕ) → j < held h q → (j < held g q) × ((q ≡ p) × (j ≡ held g p - 1) → ⊥)
   taken-held q j u =
       ⊎-elim (λ (d : q ≡ p). let k : j < held g p - 1 = omega (arith, held-same g h p (held g p - 1) less (s .rows) hp, ap (held h) d) in (omega (arith, ap (held g) d), λ b. omega (arith, b .1)))
-        (λ (ne : q ≢ p). (omega (arith, held-other g h p (held g p - 1) q less ne), λ b. ne (b .0))) (cases-eq q p)
+      (λ (ne : q ≢ p). (omega (arith, held-other g h p (held g p - 1) q less ne), λ b. ne (b .0))) (cases-eq q p)
 
   taken-each : (t : Slot) → In h t → From g h f e (free (g .free)) (page p (held g p - 1)) t
   unfolding From
@@ -122,25 +129,29 @@ module _ (g h : Paging) (f e : List ℕ) (p n : ℕ) (s : Sound g f) (hp : p < 6
       inr ((u .0, k .0), (λ b. k .1 ((cc), (cc))), put .same (page q j) (u .0, omega (arith, s .few q, k .0)) (λ b. let z : _≡_ {A = ℕ} 0 1 = cc in omega arith))
   taken-each (free k) u =
       ⊎-elim (λ (d : k ≡ g .free). inl (rw d))
-        (λ (ne : k ≢ g .free). inr (omega arith, (λ b. let z : _≡_ {A = ℕ} 0 1 = cc in omega arith), put .same (free k) (omega (arith, s .low)) (λ b. ne (cc)))) (cases-eq k (g .free))
+      (λ (ne : k ≢ g .free). inr (omega arith, (λ b. let z : _≡_ {A = ℕ} 0 1 = cc in omega arith), put .same (free k) (omega (arith, s .low)) (λ b. ne (cc)))) (cases-eq k (g .free))
 
   last-in : In g (page p (held g p - 1))
   last-in = (hp, omega arith)
 
   pub taken-sound : Sound h e
   taken-sound =
-      record { rows = ap length less ∙ length-set (g .pages) p (held g p - 1) ∙ s .rows;
+      record {
+        rows = ap length less ∙ length-set (g .pages) p (held g p - 1) ∙ s .rows;
         few = few-set g h f p (held g p - 1) s less hp (omega (arith, s .few p));
         low = omega arith;
         long = omega (arith, s .long);
         tops = put .tops;
         usable = moved-usable g h f e s (free (g .free)) (page p (held g p - 1)) last-in (put .here ∙ is) long taken-each;
-        apart = moved-apart g h f e s (free (g .free)) (page p (held g p - 1)) last-in (put .here ∙ is) long taken-each }
+        apart = moved-apart g h f e s (free (g .free)) (page p (held g p - 1)) last-in (put .here ∙ is) long taken-each;
+      }
 
   taken-page : (q i : ℕ) → (q < 64) × (i < held g q) → frame-of e q i ≡ frame-of f q i
   taken-page q i u = put .same (page q i) (u .0, omega (arith, u .1, s .few q)) (λ b. let z : _≡_ {A = ℕ} 0 1 = cc in omega arith)
 
   pub taken-others : Others p g f h e
   taken-others =
-      record { bytes = λ q a ne u. byte-kept f e q a (put .above) (s .usable (page q (a / 4096)) u .0) (taken-page q (a / 4096) u);
-        caches = λ q c ne m. cache-kept g h f e q c (λ i u. (omega (arith, u .1, held-other g h p (held g p - 1) q less ne), taken-page q i u)) m }
+      record {
+        bytes = λ q a ne u. byte-kept f e q a (put .above) (s .usable (page q (a / 4096)) u .0) (taken-page q (a / 4096) u);
+        caches = λ q c ne m. cache-kept g h f e q c (λ i u. (omega (arith, u .1, held-other g h p (held g p - 1) q less ne), taken-page q i u)) m;
+      }

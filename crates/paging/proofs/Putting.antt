@@ -61,15 +61,15 @@ module _ (g : Paging) (f e : List ℕ) (s : Sound g f) (p a n : ℕ) (v : ℕ �
   unfolding byte-of
   out q x t ne =
       rw (place-kept g f e s kept q x t)
-        (⊎-elim (λ (l : place f q x < place f p a). rest .low _ l)
-          (λ (h : place f p a ≤ place f q x). ⊎-elim
-            (λ (l : place f q x < place f p a + n).
-              let k = place f q x - place f p a in
-              let less : k < n = omega arith in
-              let same : place f q x ≡ place f p (a + k) = (let o : place f q x ≡ place f p a + k = omega arith in o ∙ sym (place-next f p a k (omega arith))) in
-              absurd (ne k less (place-apart g f s q p x (a + k) t (byte k less) same)))
-            (λ (l : place f p a + n ≤ place f q x). rest .high _ l) (cases-lt (place f q x) (place f p a + n)))
-          (cases-lt (place f q x) (place f p a)))
+      (⊎-elim (λ (l : place f q x < place f p a). rest .low _ l)
+      (λ (h : place f p a ≤ place f q x). ⊎-elim
+      (λ (l : place f q x < place f p a + n).
+      let k = place f q x - place f p a in
+      let less : k < n = omega arith in
+      let same : place f q x ≡ place f p (a + k) = (let o : place f q x ≡ place f p a + k = omega arith in o ∙ sym (place-next f p a k (omega arith))) in
+      absurd (ne k less (place-apart g f s q p x (a + k) t (byte k less) same)))
+      (λ (l : place f p a + n ≤ place f q x). rest .high _ l) (cases-lt (place f q x) (place f p a + n)))
+      (cases-lt (place f q x) (place f p a)))
 
   in-page : (k : ℕ) → k < n → byte-of e p (a + k) ≡ v k
   unfolding byte-of
@@ -77,16 +77,19 @@ module _ (g : Paging) (f e : List ℕ) (s : Sound g f) (p a n : ℕ) (v : ℕ �
 
   pub put-page : Put g f e p a n v
   put-page =
-      record { sound = sound-kept g f e s kept long; here = in-page;
+      record {
+        sound = sound-kept g f e s kept long;
+        here = in-page;
         same = λ x t o. out p x t (λ k l b. ⊎-elim (λ (h : x < a). omega (arith, b .1)) (λ (h : a + n ≤ x). omega (arith, b .1)) o);
         others = λ q x ne t. out q x t (λ k l b. ne (b .0));
-        caches = caches-kept g f e s kept }
+        caches = caches-kept g f e s kept;
+      }
 
 pub stored-over : (g : Paging) (f : List ℕ) (s : Sound g f) (p a : ℕ) (ys : List ℕ) → Byte g p a → a % 4096 + length ys ≤ 4096 → Stored g f (over f (place f p a) ys) p a ys
 stored-over g f s p a ys u page =
     let w = place-within g f s p a u in
     put-page g f _ s p a (length ys) _ u page (length-over f (place f p a) ys (omega arith)) (λ k l. getD-over-in f (place f p a) ys k 0 l)
-      (record { low = λ k l. getD-over-out f (place f p a) ys k 0 (omega arith) (inl l); high = λ k l. getD-over-out f (place f p a) ys k 0 (omega arith) (inr l) })
+    (record { low = λ k l. getD-over-out f (place f p a) ys k 0 (omega arith) (inl l); high = λ k l. getD-over-out f (place f p a) ys k 0 (omega arith) (inr l) })
 
 -- nothing is put
 pub put-none : (g : Paging) (f : List ℕ) (p a : ℕ) (v : ℕ → ℕ) → Sound g f → Put g f f p a 0 v
@@ -96,9 +99,11 @@ put-none g f p a v s = record { sound = s; here = λ k l. absurd (omega arith); 
 pub put-more : (g : Paging) (f e d : List ℕ) (p a k n : ℕ) (v w : ℕ → ℕ) → p < 64 → a + k ≤ held g p * 4096 → Put g f e p a k v → Put g e d p (a + k) n w → ((j : ℕ) → j < n → w j ≡ v (k + j))
     → Put g f d p a (k + n) v
 put-more g f e d p a k n v w hp within x y alike =
-    record { sound = y .sound;
+    record {
+      sound = y .sound;
       here = λ j l. ⊎-elim (λ (h : j < k). y .same (a + j) (hp, omega arith) (inl (omega arith)) ∙ x .here j h)
-        (λ (h : k ≤ j). let o : a + k + (j - k) ≡ a + j = omega arith in let r : k + (j - k) ≡ j = omega arith in rw (o, r) at (y .here (j - k) (omega arith) ∙ alike (j - k) (omega arith))) (cases-lt j k);
+          (λ (h : k ≤ j). let o : a + k + (j - k) ≡ a + j = omega arith in let r : k + (j - k) ≡ j = omega arith in rw (o, r) at (y .here (j - k) (omega arith) ∙ alike (j - k) (omega arith))) (cases-lt j k);
       same = λ z t o. ⊎-elim (λ (h : z < a). y .same z t (inl (omega arith)) ∙ x .same z t (inl h)) (λ (h : a + (k + n) ≤ z). y .same z t (inr (omega arith)) ∙ x .same z t (inr (omega arith))) o;
       others = λ q z ne t. y .others q z ne t ∙ x .others q z ne t;
-      caches = λ q c m. y .caches q c (x .caches q c m) }
+      caches = λ q c m. y .caches q c (x .caches q c m);
+    }

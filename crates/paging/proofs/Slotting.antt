@@ -57,7 +57,9 @@ module _ (f : List ℕ) (s : Slot) (n at : ℕ) (is : at ≡ 4096 + slot-number 
 
   pub slotted : Slotted f (over f at (word-bytes n)) s n
   slotted =
-      record { tops = tops-kept;
+      record {
+        tops = tops-kept;
         here = slot-at _ tops-kept s u ∙ rw (← is) (word-over f at n small);
         same = same-kept;
-        above = λ x l. getD-over-out f at (word-bytes n) x 0 (omega (arith, slot-below s u)) (inr (omega (arith, slot-below s u))) }
+        above = λ x l. getD-over-out f at (word-bytes n) x 0 (omega (arith, slot-below s u)) (inr (omega (arith, slot-below s u)));
+      }

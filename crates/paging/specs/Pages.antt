@@ -52,3 +52,7 @@ pub record Enough (z : Sizes) (g : Paging) : Type 0 where
 -- what is remembered of process p holds (a number of 2 ^ 20 or more is no page: nothing is remembered)
 abbrev pub Remembers : Paging → List ℕ → ℕ → Cache → Type 0
 Remembers g f p c = c .page < 1048576 → (p < 64) × (c .page < held g p) × (c .base ≡ frame-of f p (c .page) * 4096)
+
+-- nothing is remembered, so that it holds of every process
+abbrev pub Forgotten : Cache → Type 0
+Forgotten c = (g : Paging) (f : List ℕ) (p : ℕ) → Remembers g f p c

@@ -6,23 +6,26 @@ ghost use mathlib.Core.List.{[], _∷_};
 ghost use lib.ListN.{length, getD, set};
 ghost use Rattle.bytes.specs.Words.{half-bytes, word-bytes};
 ghost use Rattle.paging.specs.Tables.{place, byte-of};
-ghost use Rattle.paging.specs.Pages.{Sound, Remembers};
+ghost use Rattle.paging.specs.Pages.{Sound, Remembers, Forgotten};
 ghost use Rattle.paging.specs.Changes.{Stored};
 ghost use Rattle.paging.specs.Accesses.{has, if-has, half-of, word-of, Within};
+use crate::Cache;
+use crate::Paging;
+use crate::tables::frame;
 use bytes::half;
-use bytes::word;
 use bytes::put_half;
 use bytes::put_word;
-use crate::Paging;
-use crate::Cache;
-use crate::tables::frame;
+use bytes::word;
 
 impl Cache {
-    // Nothing is remembered: right for every process, and for the one whose tables were written.
+    // Nothing is remembered: this holds of every process, also of one whose tables were written.
     pub fn none() -> Cache
-        ensures { λ r. ⌜ r .page ≡ 4294967295 ⌝ }
+        ensures { λ r. ⌜ Forgotten r ⌝ }
     {
-        Cache { page: 0xffff_ffff, base: 0 }
+        Cache {
+            page: 0xffff_ffff,
+            base: 0,
+        }
     }
 
     // Where byte `a` of process `p` lies, if it has one: the only way from an address to a place. A hit is in bounds, so that nothing else is tested.
@@ -90,7 +93,14 @@ impl Cache {
     }
 
     // A byte is put at address `a` of process `p`; false, and nothing is written, if it has no such address.
-    pub fn store_byte(&mut self, paging: &Paging, frames: &mut [u8], p: usize, a: u32, value: u8) -> bool
+    pub fn store_byte(
+        &mut self,
+        paging: &Paging,
+        frames: &mut [u8],
+        p: usize,
+        a: u32,
+        value: u8,
+    ) -> bool
         requires sound { ⌜ Sound (now paging) (now frames) ⌝ }
         requires process { ⌜ p < 64 ⌝ }
         requires holds { ⌜ Remembers (now paging) (now frames) p (now self) ⌝ }
@@ -107,7 +117,14 @@ impl Cache {
     }
 
     // A number is put into the two bytes from address `a` on; false, and nothing is written, if process `p` has them not.
-    pub fn store_half(&mut self, paging: &Paging, frames: &mut [u8], p: usize, a: u32, value: u16) -> bool
+    pub fn store_half(
+        &mut self,
+        paging: &Paging,
+        frames: &mut [u8],
+        p: usize,
+        a: u32,
+        value: u16,
+    ) -> bool
         requires sound { ⌜ Sound (now paging) (now frames) ⌝ }
         requires process { ⌜ p < 64 ⌝ }
         requires aligned { ⌜ a % 2 ≡ 0 ⌝ }
@@ -125,7 +142,14 @@ impl Cache {
     }
 
     // A number is put into the four bytes from address `a` on; false, and nothing is written, if process `p` has them not.
-    pub fn store_word(&mut self, paging: &Paging, frames: &mut [u8], p: usize, a: u32, value: u32) -> bool
+    pub fn store_word(
+        &mut self,
+        paging: &Paging,
+        frames: &mut [u8],
+        p: usize,
+        a: u32,
+        value: u32,
+    ) -> bool
         requires sound { ⌜ Sound (now paging) (now frames) ⌝ }
         requires process { ⌜ p < 64 ⌝ }
         requires aligned { ⌜ a % 4 ≡ 0 ⌝ }

@@ -6,9 +6,9 @@ ghost use Rattle.paging.specs.Tables.{byte-of};
 ghost use Rattle.paging.specs.Pages.{Sound, held};
 ghost use Rattle.paging.specs.Changes.{Filled};
 use crate::Paging;
-use crate::tables::frame;
-use crate::frames::zero_frame;
 use crate::frames::copy_frame;
+use crate::frames::zero_frame;
+use crate::tables::frame;
 
 impl Paging {
     // Zeros in page `i` of process `p`.

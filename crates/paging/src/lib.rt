@@ -1,13 +1,13 @@
 // The memory of processes, in frames of 4,096 bytes of lent memory. The first 80 frames hold the page tables and a stack of free frames; the others hold pages.
 // What a process sees is one row of bytes, `byte-of` process and address (specs/Tables); no caller speaks of tables.
-mod tables;
+mod accesses;
+mod fills;
+mod frames;
+mod lives;
+mod runs;
 mod slots;
 mod stack;
-mod frames;
-mod fills;
-mod lives;
-mod accesses;
-mod runs;
+mod tables;
 
 // Which processes have pages. A process has all its pages while it runs, and none else; in between, as it begins or ends, it has the first few.
 #[derive(Clone, Copy)]

@@ -5,10 +5,10 @@ ghost use lib.ListN.{length, getD, set};
 ghost use Rattle.paging.specs.Tables.{byte-of};
 ghost use Rattle.paging.specs.Pages.{Sound, Enough, held};
 ghost use Rattle.paging.specs.Changes.{Begun, Ended};
-use turns::vocabulary::Sizes;
 use crate::Paging;
 use crate::slots::make_tops;
 use crate::slots::put_free;
+use turns::vocabulary::Sizes;
 
 impl Paging {
     // No process has a page, and `total` frames are free.
@@ -17,7 +17,10 @@ impl Paging {
         ensures rows { λ r. ⌜ length (r .pages) ≡ 64 ⌝ }
         ensures none { λ r. ⌜ ((p : ℕ) → held r p ≡ 0) ⌝ }
     {
-        Paging { free: total, pages: [0; 64] }
+        Paging {
+            free: total,
+            pages: [0; 64],
+        }
     }
 
     // Sets up tables in lent memory, whatever it holds: no process has a page, and as many frames are free as all processes may have pages.
@@ -64,9 +67,9 @@ impl Paging {
         ensures begun { λ _. ⌜ Begun (now (self .entry)) (now (frames .entry)) (now (self .exit)) (now (frames .exit)) to (sizes .memory / 4096) (byte-of (now (frames .entry)) from) ⌝ }
         ensures enough { λ _. ⌜ Enough sizes (now (self .exit)) ⌝ }
     {
-        for i in 0..sizes.memory as usize / 4096 {
+        for page in 0..sizes.memory as usize / 4096 {
             self.give_page(frames, to);
-            self.copy_page(frames, from, to, i);
+            self.copy_page(frames, from, to, page);
         }
     }
 

@@ -4,10 +4,10 @@ ghost use Prim.Native.Nat.{ℕ, _+_, _-_, _*_, _/_, _%_, _^_, _<_, _≤_};
 ghost use lib.ListN.{length, getD, set};
 ghost use Rattle.paging.specs.Tables.{frame-of, free-at, Tops, Slot, frame-at, Slotted};
 ghost use Rattle.paging.specs.Tables.Slot.{page, free};
-use bytes::word;
-use bytes::put_word;
 use crate::tables::entry;
 use crate::tables::leaf;
+use bytes::put_word;
+use bytes::word;
 
 // The stack of free frames lies behind the tables.
 pub(crate) const STACK: usize = 69_632;

@@ -12,4 +12,5 @@ returns c =
     let here = found-some (c .args .paging .now) (c .args .p) (c .args .a) (place f (c .args .p) (c .args .a)) (c .in-Some .at) (c .in-Some .ensures tt .value) in
     record {
       value = loaded-some (c .args .paging .now) (c .args .p) (c .args .a) _ _ (here .0) (c .word .ensures ∙ ap (word-at f) {x = c .in-Some .at} {y = place f (c .args .p) (c .args .a)} (here .1) ∙ word-here f (c .args .p) (c .args .a) (omega arith));
-      holds = c .find .ensures .holds }
+      holds = c .find .ensures .holds;
+    }

@@ -9,9 +9,13 @@ use Rattle.paging.proofs.Paging.copy_page.Needs as need
 
 pub copy-frame-requires : need.copy-frame-requires
 copy-frame-requires c κs =
-    record { small = (c .frame-source .ensures .fits, c .frame-target .ensures .fits);
-      within = (rw (c .frame-source .ensures .value) (c .pre .sound .usable (page (c .args .from) (c .args .i)) (c .pre .processes .0, c .pre .pages .0) .1),
-        rw (c .frame-target .ensures .value) (c .pre .sound .usable (page (c .args .to) (c .args .i)) (c .pre .processes .1, c .pre .pages .1) .1)) }
+    record {
+      small = (c .frame-source .ensures .fits, c .frame-target .ensures .fits);
+      within = (
+        rw (c .frame-source .ensures .value) (c .pre .sound .usable (page (c .args .from) (c .args .i)) (c .pre .processes .0, c .pre .pages .0) .1),
+        rw (c .frame-target .ensures .value) (c .pre .sound .usable (page (c .args .to) (c .args .i)) (c .pre .processes .1, c .pre .pages .1) .1),
+      );
+    }
 
 pub returns : need.returns
 unfolding byte-of place
@@ -22,4 +26,5 @@ returns c =
     record {
       sound = sound-frame g f _ _ _ _ (byte-of f (c .args .from)) (c .pre .sound) u (c .frame-target .ensures .value) (omega arith) (c .copy-frame .ensures .rest);
       filled = frame-filled g f _ _ _ _ (byte-of f (c .args .from)) (c .pre .sound) u (c .frame-target .ensures .value) (omega arith) (c .copy-frame .ensures .rest)
-        (λ a d. c .copy-frame .ensures .here (a % 4096) (omega arith) ∙ rw (c .frame-source .ensures .value, d)) }
+          (λ a d. c .copy-frame .ensures .here (a % 4096) (omega arith) ∙ rw (c .frame-source .ensures .value, d));
+    }

@@ -15,8 +15,12 @@ pub take-page-requires : need.take-page-requires
 take-page-requires c κs =
     let g = c .args .self .now in
     let has = held-same g (c .loop .self) (c .args .p) _ (ap (λ x. x .pages) (c .loop .inv .state)) (c .pre .sound .rows) (omega arith) in
-    record { sound = c .loop .inv .sound; process = omega arith; some = omega (arith, has);
-      room = omega (arith, ap (λ x. x .free) (c .loop .inv .state), enough-low (c .args .sizes) g (c .pre .enough) (c .pre .sound .rows) (c .args .p) (c .pre .process) (omega arith)) }
+    record {
+      sound = c .loop .inv .sound;
+      process = omega arith;
+      some = omega (arith, has);
+      room = omega (arith, ap (λ x. x .free) (c .loop .inv .state), enough-low (c .args .sizes) g (c .pre .enough) (c .pre .sound .rows) (c .args .p) (c .pre .process) (omega arith));
+    }
 
 pub loop-again : need.loop-again
 loop-again c =

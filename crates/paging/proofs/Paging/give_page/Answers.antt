@@ -15,4 +15,5 @@ returns c =
     record {
       state = ap (λ (n : ℕ). record { free = n; pages = set (g .pages) p (held g p + 1) }) (omega arith);
       sound = given-sound g _ f _ p _ (c .pre .sound) (c .pre .process) (c .pre .room) (c .pre .some) refl refl (c .free-frame-free .ensures) (c .put-page .ensures) (omega arith);
-      kept = given-kept g _ f _ p _ (c .pre .sound) (c .pre .process) (c .pre .room) (c .pre .some) refl refl (c .free-frame-free .ensures) (c .put-page .ensures) (omega arith) }
+      kept = given-kept g _ f _ p _ (c .pre .sound) (c .pre .process) (c .pre .room) (c .pre .some) refl refl (c .free-frame-free .ensures) (c .put-page .ensures) (omega arith);
+    }

@@ -16,11 +16,12 @@ loop-done-again c =
     let e : ys ≡ run = c .copy-from-slice .ensures .after in
     let end = at + length run in
     let fits : end ≤ length xs = omega (arith, c .run-run .ensures .long) in
-    let long : length ys ≡ end - at = omega (arith, ap length e) in
-    (omega (arith, part-long xs ys at end long (omega arith) fits),
+    let long : length ys ≡ end - at = omega (arith, ap length e) in (
+      omega (arith, part-long xs ys at end long (omega arith) fits),
       λ k h. ⊎-elim (λ (l : k < at). part-else xs ys at end long (omega arith) fits .low k l ∙ c .loop-done .inv .1 k l)
-        (λ (l : at ≤ k).
+          (λ (l : at ≤ k).
           let o : at + (k - at) ≡ k = omega arith in
           let r : c .args .a + at + (k - at) ≡ c .args .a + k = omega arith in
           rw o at (part-in xs ys at end long (omega arith) fits (k - at) (omega arith)) ∙ ap (λ zs. getD zs (k - at) 0) e ∙ (rw r at (c .run-run .ensures .bytes (k - at) (omega arith))))
-        (cases-lt k at))
+          (cases-lt k at),
+    )

@@ -9,4 +9,5 @@ returns c =
     let e = c .place-of-at .ensures in
     record {
       long = run-long f (c .args .p) (c .args .a) (c .place-of-at .result) (c .min .result) (e .value) (omega arith) (e .within) ∙ c .min .ensures;
-      bytes = run-byte f (c .args .p) (c .args .a) (c .place-of-at .result) (c .min .result) (e .value) (omega arith) (e .within) }
+      bytes = run-byte f (c .args .p) (c .args .a) (c .place-of-at .result) (c .min .result) (e .value) (omega arith) (e .within);
+    }

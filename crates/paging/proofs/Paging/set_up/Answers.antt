@@ -17,9 +17,10 @@ put-free-requires c κs = record { stack = omega (arith, most (c .args .sizes) (
 
 pub loop-k-again : need.loop-k-again
 loop-k-again c =
-    let m = most (c .args .sizes) (c .pre .processes) (c .pre .small) in
-    (c .put-free .ensures .tops,
-      below-more _ _ (λ j h. c .put-free .ensures .same (free j) (omega arith) (λ e. let d : j ≡ c .loop-k .k = cc in omega arith) ∙ c .loop-k .inv .1 j h) (c .put-free .ensures .here))
+    let m = most (c .args .sizes) (c .pre .processes) (c .pre .small) in (
+      c .put-free .ensures .tops,
+      below-more _ _ (λ j h. c .put-free .ensures .same (free j) (omega arith) (λ e. let d : j ≡ c .loop-k .k = cc in omega arith) ∙ c .loop-k .inv .1 j h) (c .put-free .ensures .here),
+    )
 
 pub returns : need.returns
 returns c =
@@ -28,4 +29,5 @@ returns c =
     record {
       sound = fresh _ _ (e .rows) (e .none) (omega arith) (omega arith) (c .loop-k .inv .0) (λ k h. c .loop-k .inv .1 k (omega arith));
       enough = record { processes = c .pre .processes; small = c .pre .small; whole = c .pre .whole; free = e .free ∙ sym (lacking-all _ _ _ (e .none)) };
-      none = e .none }
+      none = e .none;
+    }

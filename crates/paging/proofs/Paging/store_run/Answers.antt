@@ -24,6 +24,7 @@ returns c =
     record {
       long = c .min-n .ensures;
       put = put-page (c .args .self .now) f _ (c .pre .sound) (c .args .p) (c .args .a) n (λ k. getD bs k 0) (c .pre .process, omega arith) (omega (arith, c .min-n .ensures))
-        (part-long f ys at (at + n) long (omega arith) fits)
-        (λ k l. rw (← is) (part-in f ys at (at + n) long (omega arith) fits k (omega arith) ∙ ap (λ zs. getD zs k 0) e ∙ getD-take n bs k 0 l))
-        (rw (← is) (part-else f ys at (at + n) long (omega arith) fits)) }
+          (part-long f ys at (at + n) long (omega arith) fits)
+          (λ k l. rw (← is) (part-in f ys at (at + n) long (omega arith) fits k (omega arith) ∙ ap (λ zs. getD zs k 0) e ∙ getD-take n bs k 0 l))
+          (rw (← is) (part-else f ys at (at + n) long (omega arith) fits));
+    }

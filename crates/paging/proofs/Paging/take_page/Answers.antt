@@ -15,4 +15,5 @@ returns c =
     record {
       state = ap (λ (n : ℕ). record { free = n; pages = set (g .pages) p (held g p - 1) }) (omega arith);
       sound = taken-sound g _ f _ p _ (c .pre .sound) (c .pre .process) (c .pre .some) (c .pre .room) refl refl (c .frame-n .ensures .value) (c .put-free .ensures) (omega arith);
-      others = taken-others g _ f _ p _ (c .pre .sound) (c .pre .process) (c .pre .some) (c .pre .room) refl refl (c .frame-n .ensures .value) (c .put-free .ensures) (omega arith) }
+      others = taken-others g _ f _ p _ (c .pre .sound) (c .pre .process) (c .pre .some) (c .pre .room) refl refl (c .frame-n .ensures .value) (c .put-free .ensures) (omega arith);
+    }

@@ -17,4 +17,5 @@ returns c =
     record {
       sound = sound-frame g f _ _ _ _ (λ _. 0) (c .pre .sound) u (c .frame-n .ensures .value) (omega arith) (c .zero-frame .ensures .rest);
       filled = frame-filled g f _ _ _ _ (λ _. 0) (c .pre .sound) u (c .frame-n .ensures .value) (omega arith) (c .zero-frame .ensures .rest)
-        (λ a d. c .zero-frame .ensures .here (a % 4096) (omega arith)) }
+          (λ a d. c .zero-frame .ensures .here (a % 4096) (omega arith));
+    }

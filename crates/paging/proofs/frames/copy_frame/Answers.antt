@@ -11,4 +11,5 @@ returns c =
     let at = c .args .to * 4096 in
     record {
       here = λ k h. part-in (c .args .frames .now) (c .copy-from-slice-2 .last .self) at (at + 4096) (search (needs, places)) (omega arith) (omega arith) k (omega arith) ∙ search (needs, places);
-      rest = part-else (c .args .frames .now) (c .copy-from-slice-2 .last .self) at (at + 4096) (search (needs, places)) (omega arith) (omega arith) }
+      rest = part-else (c .args .frames .now) (c .copy-from-slice-2 .last .self) at (at + 4096) (search (needs, places)) (omega arith) (omega arith);
+    }

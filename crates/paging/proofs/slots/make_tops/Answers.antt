@@ -11,8 +11,8 @@ use Rattle.paging.proofs.slots.make_tops.Needs as need
 pub loop-n-again : need.loop-n-again
 loop-n-again c =
     below-more _ _
-      (λ m h. ap (λ f. word-at f (m * 4)) (c .put-word .ensures .row) ∙ word-over-out _ _ _ (m * 4) (omega arith) (inl (omega arith)) ∙ c .loop-n .inv m h)
-      (c .put-word .ensures .read)
+    (λ m h. ap (λ f. word-at f (m * 4)) (c .put-word .ensures .row) ∙ word-over-out _ _ _ (m * 4) (omega arith) (inl (omega arith)) ∙ c .loop-n .inv m h)
+    (c .put-word .ensures .read)
 
 pub returns : need.returns
 unfolding entry-of

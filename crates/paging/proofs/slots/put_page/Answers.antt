@@ -6,4 +6,4 @@ use Rattle.paging.proofs.slots.put_page.Needs as need
 pub returns : need.returns
 returns c =
     rw (c .put-word .ensures .row)
-      (slotted (c .args .frames .now) (page (c .args .p) (c .args .i)) (c .args .n) _ (omega arith) (c .pre .tops) (c .pre .process, c .pre .page) (omega arith) (c .pre .long))
+    (slotted (c .args .frames .now) (page (c .args .p) (c .args .i)) (c .args .n) _ (omega arith) (c .pre .tops) (c .pre .process, c .pre .page) (omega arith) (c .pre .long))
