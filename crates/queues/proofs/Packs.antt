@@ -85,6 +85,7 @@ module _ (s r : Screens) (xs ys bs : List ℕ) (t : ℕ) (p : Packed s xs) (ht :
             rw (before t (omega arith) (omega arith), e)
             (put .here (k - n) (omega (arith, length-append (screen-of s xs t) bs, length-screen s xs p t ht)) ∙ sym (getD-append-right (screen-of s xs t) bs n k 0 (length-screen s xs p t ht) h)))
             (cases-lt k (begin-of s (t + 1) - begin-of s t)));
+        more = omega (arith, total-is r ys append-packed 16 (omega arith), total-is s xs p 16 (omega arith), behind 16 (omega arith) ht);
         others = λ u h ne. screen-is r ys append-packed u (screen-of s xs u) h
             (⊎-elim (λ (e : u ≡ t). absurd (ne e))
             (λ o. ⊎-elim

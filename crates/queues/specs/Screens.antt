@@ -25,10 +25,11 @@ pub record Packed (s : Screens) (xs : List ℕ) : Type 0 where
   pub up : (t : ℕ) → t < 16 → begin-of s t ≤ begin-of s (t + 1)
   pub last : begin-of s 16 ≤ length xs
 
--- screen t shows bs behind what it showed; the others show what they showed
+-- screen t shows bs behind what it showed; the others show what they showed, so that there are just so many bytes more
 pub record Appended (s : Screens) (xs : List ℕ) (r : Screens) (ys : List ℕ) (t : ℕ) (bs : List ℕ) : Type 0 where
   pub here : screen-of r ys t ≡ screen-of s xs t ++ bs
   pub others : (u : ℕ) → u < 16 → (u ≡ t → ⊥) → screen-of r ys u ≡ screen-of s xs u
+  pub more : total r ys 16 ≡ total s xs 16 + length bs
 
 -- bs stands at place a of the row; what stood there, up to before e, stands behind it
 pub record Inserted (xs ys : List ℕ) (a e : ℕ) (bs : List ℕ) : Type 0 where
