@@ -6,3 +6,4 @@ pub mod Counting
 pub mod Living
 pub mod Putting
 pub mod Finding
+pub mod Rows

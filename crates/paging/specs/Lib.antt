@@ -3,3 +3,4 @@ pub mod Pages
 pub mod Changes
 pub mod Frames
 pub mod Accesses
+pub mod Rows
