@@ -8,7 +8,7 @@ use native.Mathlib.Omega.{arith}
 use native.Mathlib.Numerals.{add-one}
 use lib.Dec.{ltb, leb}
 use lib.ListN.{length, getD, take, drop}
-use Rattle.std.proofs.shelf.Lists.{ext-getD, length-append, length-drop, length-take-le, getD-take, getD-drop, getD-append-left, getD-append-right}
+use Rattle.std.proofs.shelf.Lists.{ext-getD, length-append, length-drop, length-take-le, getD-take, getD-drop, getD-append-left, getD-append-right, append-nil, append-assoc}
 use Rattle.std.proofs.shelf.Tests.{cases-lt, cases-order, lt-ltb, le-ltb, leb-true}
 use Rattle.queues.specs.declared.Screens.{Screens}
 use Rattle.queues.specs.Screens.{begin-of, Packed, screen-of, total, Appended, Inserted}
@@ -111,3 +111,15 @@ module _ (s : Screens) (rows : length (s .begins) ≡ 17) (none : (t : ℕ) → 
   pub none-shown : (xs : List ℕ) (t : ℕ) → screen-of s xs t ≡ []
   unfolding screen-of
   none-shown xs t = let e : begin-of s (t + 1) - begin-of s t ≡ 0 = omega (arith, none (t + 1)) in rw e
+
+-- nothing more, and some bytes and then others, as one row
+pub appended-none : (s : Screens) (xs : List ℕ) (t : ℕ) → Appended s xs s xs t []
+appended-none s xs t = record { here = sym (append-nil (screen-of s xs t)); others = λ u h ne. refl; more = omega arith }
+
+pub appended-then : (s r q : Screens) (xs ys zs : List ℕ) (t : ℕ) (bs cs : List ℕ) → Appended s xs r ys t bs → Appended r ys q zs t cs → Appended s xs q zs t (bs ++ cs)
+appended-then s r q xs ys zs t bs cs a b =
+    record {
+      here = b .here ∙ ap (λ l. l ++ cs) (a .here) ∙ append-assoc (screen-of s xs t) bs cs;
+      others = λ u h ne. b .others u h ne ∙ a .others u h ne;
+      more = omega (arith, a .more, b .more, length-append bs cs);
+    }

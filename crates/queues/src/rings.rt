@@ -74,7 +74,7 @@ impl Queue {
     }
 
     // The bytes at the front, as many as lie in the row before its end, and at most `n`. They are lent, and stay until they are taken.
-    pub fn front<'a>(&self, rows: &'a [u8], t: usize, n: usize) -> &'a [u8]
+    pub(crate) fn front<'a>(&self, rows: &'a [u8], t: usize, n: usize) -> &'a [u8]
         requires sound { ⌜ Round (now self) ⌝ }
         requires row { ⌜ t * 4096 + 4096 ≤ length (now rows) ⌝ }
         ensures long { λ r. ⌜ length (now r) ≡ min n (min (now (self .entry) .length) (4096 - now (self .entry) .start)) ⌝ }
@@ -87,7 +87,7 @@ impl Queue {
     }
 
     // The first `n` bytes are taken.
-    pub fn take(&mut self, n: usize)
+    pub(crate) fn take(&mut self, n: usize)
         requires sound { ⌜ Round (now self) ⌝ }
         requires some { ⌜ n ≤ now self .length ⌝ }
         ensures sound { λ _. ⌜ Round (now (self .exit)) ⌝ }
@@ -96,5 +96,28 @@ impl Queue {
     {
         self.start = (self.start + n) % 4096;
         self.length -= n;
+    }
+
+    // The first bytes are taken and put into `out`, as many as wait and as it has room for; how many those are.
+    pub fn take_into(&mut self, rows: &[u8], t: usize, out: &mut [u8]) -> usize
+        requires sound { ⌜ Round (now self) ⌝ }
+        requires row { ⌜ t * 4096 + 4096 ≤ length (now rows) ⌝ }
+        ensures count { λ r. ⌜ r ≡ min (length (now (out .entry))) (now (self .entry) .length) ⌝ }
+        ensures sound { λ _. ⌜ Round (now (self .exit)) ⌝ }
+        ensures long { λ r. ⌜ now (self .exit) .length ≡ now (self .entry) .length - r ⌝ }
+        ensures queue { λ r. ⌜ queued (now (self .exit)) (now (rows .entry)) t ≡ drop r (queued (now (self .entry)) (now (rows .entry)) t) ⌝ }
+        ensures bytes { λ r. ⌜ take r (now (out .exit)) ≡ take r (queued (now (self .entry)) (now (rows .entry)) t) ⌝ }
+        ensures rest { λ r. ⌜ ((k : ℕ) → r ≤ k → getD (now (out .exit)) k 0 ≡ getD (now (out .entry)) k 0) ⌝ }
+    {
+        let n = out.len().min(self.length);
+        let mut done = 0;
+        while done < n {
+            let run = self.front(rows, t, n - done);
+            let next = done + run.len();
+            out[done..next].copy_from_slice(run);
+            self.take(next - done);
+            done = next;
+        }
+        n
     }
 }

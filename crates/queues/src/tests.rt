@@ -6,14 +6,14 @@ use std::test::*;
 #[test]
 fn goes_round() -> Result<(), Fail> {
     let mut rows = [0u8; 8192];
+    let mut out = [0u8; 4096];
     let mut queue = Queue::empty();
     let first = [7u8; 4095];
     check(queue.put(&mut rows, 1, &first, 4096) == 4095)?;
-    queue.take(4095);
+    check(queue.take_into(&rows, 1, &mut out) == 4095)?;
     check(queue.put(&mut rows, 1, b"abc", 2) == 2)?;
-    check(queue.front(&rows, 1, 9) == b"a")?;
-    queue.take(1);
-    check(queue.front(&rows, 1, 9) == b"b")
+    check(queue.take_into(&rows, 1, &mut out) == 2)?;
+    check(out[0] == b'a' && out[1] == b'b' && out[2] == 7)
 }
 
 #[test]
