@@ -28,6 +28,7 @@ impl Paging {
         requires some { ⌜ 0 < n ⌝ }
         requires within { ⌜ a + n ≤ held (now self) p * 4096 ⌝ }
         ensures long { λ r. ⌜ length (now r) ≡ min n (4096 - a % 4096) ⌝ }
+        ensures some { λ r. ⌜ 0 < length (now r) ⌝ ∗ ⌜ length (now r) ≤ n ⌝ }
         ensures bytes { λ r. ⌜ ((k : ℕ) → k < length (now r) → getD (now r) k 0 ≡ byte-of (now (frames .entry)) p (a + k)) ⌝ }
     {
         let at = self.place_of(frames, p, a);
@@ -35,16 +36,18 @@ impl Paging {
         &frames[at..end]
     }
 
-    // Copies the bytes of process `p` from address `a` on, as many as `out` has room for.
-    pub fn load_bytes(&self, frames: &[u8], p: usize, a: usize, out: &mut [u8])
+    // Copies `n` bytes of process `p`, from address `a` on, into `out`.
+    pub fn load_bytes(&self, frames: &[u8], p: usize, a: usize, n: usize, out: &mut [u8])
         requires sound { ⌜ Sound (now self) (now frames) ⌝ }
         requires process { ⌜ p < 64 ⌝ }
-        requires within { ⌜ a + length (now out) ≤ held (now self) p * 4096 ⌝ }
-        ensures { λ _. ⌜ ((k : ℕ) → k < length (now (out .exit)) → getD (now (out .exit)) k 0 ≡ byte-of (now (frames .entry)) p (a + k)) ⌝ }
+        requires within { ⌜ a + n ≤ held (now self) p * 4096 ⌝ }
+        requires room { ⌜ n ≤ length (now out) ⌝ }
+        ensures bytes { λ _. ⌜ ((k : ℕ) → k < n → getD (now (out .exit)) k 0 ≡ byte-of (now (frames .entry)) p (a + k)) ⌝ }
+        ensures rest { λ _. ⌜ ((k : ℕ) → n ≤ k → getD (now (out .exit)) k 0 ≡ getD (now (out .entry)) k 0) ⌝ }
     {
         let mut done = 0;
-        while done < out.len() {
-            let run = self.run(frames, p, a + done, out.len() - done);
+        while done < n {
+            let run = self.run(frames, p, a + done, n - done);
             let next = done + run.len();
             out[done..next].copy_from_slice(run);
             done = next;

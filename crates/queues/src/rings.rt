@@ -60,6 +60,7 @@ impl Queue {
         requires limit { ⌜ limit ≤ 4096 ⌝ }
         requires within { ⌜ now self .length ≤ limit ⌝ }
         ensures count { λ r. ⌜ r ≡ min (length (now (bytes .entry))) (limit - now (self .entry) .length) ⌝ }
+        ensures few { λ r. ⌜ r ≤ length (now (bytes .entry)) ⌝ }
         ensures sound { λ _. ⌜ Round (now (self .exit)) ⌝ }
         ensures long { λ r. ⌜ now (self .exit) .length ≡ now (self .entry) .length + r ⌝ }
         ensures queue { λ r. ⌜ queued (now (self .exit)) (now (rows .exit)) t ≡ queued (now (self .entry)) (now (rows .entry)) t ++ take r (now (bytes .entry)) ⌝ }
@@ -98,26 +99,28 @@ impl Queue {
         self.length -= n;
     }
 
-    // The first bytes are taken and put into `out`, as many as wait and as it has room for; how many those are.
-    pub fn take_into(&mut self, rows: &[u8], t: usize, out: &mut [u8]) -> usize
+    // The first `n` bytes, or all if fewer wait, are taken and put into `out`; how many those are.
+    pub fn take_into(&mut self, rows: &[u8], t: usize, n: usize, out: &mut [u8]) -> usize
         requires sound { ⌜ Round (now self) ⌝ }
         requires row { ⌜ t * 4096 + 4096 ≤ length (now rows) ⌝ }
-        ensures count { λ r. ⌜ r ≡ min (length (now (out .entry))) (now (self .entry) .length) ⌝ }
+        requires room { ⌜ n ≤ length (now out) ⌝ }
+        ensures count { λ r. ⌜ r ≡ min n (now (self .entry) .length) ⌝ }
+        ensures few { λ r. ⌜ r ≤ n ⌝ }
         ensures sound { λ _. ⌜ Round (now (self .exit)) ⌝ }
         ensures long { λ r. ⌜ now (self .exit) .length ≡ now (self .entry) .length - r ⌝ }
         ensures queue { λ r. ⌜ queued (now (self .exit)) (now (rows .entry)) t ≡ drop r (queued (now (self .entry)) (now (rows .entry)) t) ⌝ }
         ensures bytes { λ r. ⌜ take r (now (out .exit)) ≡ take r (queued (now (self .entry)) (now (rows .entry)) t) ⌝ }
         ensures rest { λ r. ⌜ ((k : ℕ) → r ≤ k → getD (now (out .exit)) k 0 ≡ getD (now (out .entry)) k 0) ⌝ }
     {
-        let n = out.len().min(self.length);
+        let count = n.min(self.length);
         let mut done = 0;
-        while done < n {
-            let run = self.front(rows, t, n - done);
+        while done < count {
+            let run = self.front(rows, t, count - done);
             let next = done + run.len();
             out[done..next].copy_from_slice(run);
             self.take(next - done);
             done = next;
         }
-        n
+        count
     }
 }

@@ -10,9 +10,9 @@ fn goes_round() -> Result<(), Fail> {
     let mut queue = Queue::empty();
     let first = [7u8; 4095];
     check(queue.put(&mut rows, 1, &first, 4096) == 4095)?;
-    check(queue.take_into(&rows, 1, &mut out) == 4095)?;
+    check(queue.take_into(&rows, 1, 4096, &mut out) == 4095)?;
     check(queue.put(&mut rows, 1, b"abc", 2) == 2)?;
-    check(queue.take_into(&rows, 1, &mut out) == 2)?;
+    check(queue.take_into(&rows, 1, 9, &mut out) == 2)?;
     check(out[0] == b'a' && out[1] == b'b' && out[2] == 7)
 }
 

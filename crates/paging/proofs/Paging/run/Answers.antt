@@ -7,7 +7,9 @@ pub returns : need.returns
 returns c =
     let f = c .args .frames .now in
     let e = c .place-of-at .ensures in
+    let long = run-long f (c .args .p) (c .args .a) (c .place-of-at .result) (c .min .result) (e .value) (omega arith) (e .within) in
     record {
-      long = run-long f (c .args .p) (c .args .a) (c .place-of-at .result) (c .min .result) (e .value) (omega arith) (e .within) ∙ c .min .ensures;
+      long = long ∙ c .min .ensures;
+      some = (omega (arith, long, c .min .ensures), omega (arith, long, c .min .ensures));
       bytes = run-byte f (c .args .p) (c .args .a) (c .place-of-at .result) (c .min .result) (e .value) (omega arith) (e .within);
     }

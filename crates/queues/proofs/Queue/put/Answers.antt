@@ -28,4 +28,4 @@ pub returns : need.returns
 returns c =
     let i = c .loop-done .inv in
     let same : c .loop-done .done ≡ c .min-n .result = omega (arith, i .1) in
-    record { count = c .min-n .ensures; sound = i .0; long = omega (arith, i .2); queue = rw same at (i .3); others = i .4 }
+    record { count = c .min-n .ensures; few = omega (arith, c .min-n .ensures); sound = i .0; long = omega (arith, i .2); queue = rw same at (i .3); others = i .4 }

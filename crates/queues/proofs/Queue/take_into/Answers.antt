@@ -20,8 +20,8 @@ loop-done-again c =
     let xs = c .loop-done .out in
     let ys = c .copy-from-slice .last .self in
     let e : ys ≡ run = c .copy-from-slice .ensures .after in
-    let few : end ≤ c .min-n .result = omega (arith, c .front-run .ensures .long, i .0 .1) in
-    let fits : end ≤ length xs = omega (arith, c .min-n .ensures) in
+    let few : end ≤ c .min-count .result = omega (arith, c .front-run .ensures .long, i .0 .1) in
+    let fits : end ≤ length xs = omega (arith, c .min-count .ensures) in
     let long : length ys ≡ end - d = omega (arith, ap length e) in
     let less : end - d ≡ length run = omega arith in (
       (c .take .ensures .sound, few, omega (arith, c .take .ensures .long, i .0 .2)),
@@ -39,13 +39,14 @@ loop-done-again c =
 pub returns : need.returns
 returns c =
     let i = c .loop-done .inv in
-    let n = c .min-n .result in
+    let n = c .min-count .result in
     let qs = queued (c .args .self .now) (c .args .rows .now) (c .args .t) in
     let same : c .loop-done .done ≡ n = omega (arith, i .0 .1) in
-    let lx : length (take n (c .loop-done .out)) ≡ n = length-take-le n (c .loop-done .out) (omega (arith, c .min-n .ensures)) in
-    let lq : length (take n qs) ≡ n = length-take-le n qs (omega (arith, c .min-n .ensures, length-queued (c .args .self .now) (c .args .rows .now) (c .args .t))) in
+    let lx : length (take n (c .loop-done .out)) ≡ n = length-take-le n (c .loop-done .out) (omega (arith, c .min-count .ensures)) in
+    let lq : length (take n qs) ≡ n = length-take-le n qs (omega (arith, c .min-count .ensures, length-queued (c .args .self .now) (c .args .rows .now) (c .args .t))) in
     record {
-      count = c .min-n .ensures;
+      count = c .min-count .ensures;
+      few = omega (arith, c .min-count .ensures);
       sound = i .0 .0;
       long = omega (arith, i .0 .2);
       queue = rw same at (i .1);
