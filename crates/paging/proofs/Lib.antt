@@ -7,3 +7,4 @@ pub mod Living
 pub mod Putting
 pub mod Finding
 pub mod Rows
+pub mod Standing

@@ -4,3 +4,4 @@ pub mod Changes
 pub mod Frames
 pub mod Accesses
 pub mod Rows
+pub mod Laws

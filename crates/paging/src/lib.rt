@@ -3,6 +3,7 @@
 mod accesses;
 mod fills;
 mod frames;
+pub mod laws;
 mod lives;
 mod runs;
 mod slots;
