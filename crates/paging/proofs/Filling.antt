@@ -1,18 +1,18 @@
 -- A frame is written whole, or bytes within it: what processes see of it. Assumes nothing.
-use mathlib.Core.Path.{_≡_, refl, sym, ap, _∙_}
-use mathlib.Core.Logic.{_≢_, _⊎_, inl, inr, ⊎-elim}
+use mathlib.Core.Path.{_≡_, sym, _∙_}
+use mathlib.Core.Logic.{⊎-elim}
 use mathlib.Core.List.{List}
-use Prim.Native.Nat.{ℕ, _+_, _-_, _*_, _/_, _%_, _≤_, _<_}
+use Prim.Native.Nat.{ℕ, _+_, _*_, _/_, _%_, _≤_, _<_}
 use native.Mathlib.Omega.{arith}
 use lib.ListN.{length, getD}
 use Rattle.std.proofs.shelf.Tests.{cases-order}
 use Rattle.bytes.specs.Words.{word-at}
 use Rattle.paging.specs.declared.Paging.{Paging}
 use Rattle.paging.specs.declared.Cache.{Cache}
-use Rattle.paging.specs.Tables.{entry-of, frame-of, place, byte-of, Tops, Slot, frame-at, Slots}
-use Rattle.paging.specs.Tables.Slot.{page, free}
-use Rattle.paging.specs.Pages.{held, Byte, In, Sound, Remembers}
-use Rattle.paging.specs.Changes.{Kept, Others, Filled}
+use Rattle.paging.specs.Tables.{entry-of, frame-of, place, byte-of, Tops, Slot, frame-at}
+use Rattle.paging.specs.Tables.Slot.{page}
+use Rattle.paging.specs.Pages.{Byte, In, Sound, Remembers}
+use Rattle.paging.specs.Changes.{Filled}
 use Rattle.paging.specs.Frames.{Else-kept}
 use Rattle.paging.proofs.Slotting.{slot-number, slot-at, slot-below}
 use Rattle.paging.proofs.Moving.{in-slots, cache-kept}

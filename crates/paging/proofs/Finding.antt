@@ -2,15 +2,14 @@
 use mathlib.Core.Path.{_≡_, refl, sym, ap, _∙_}
 use mathlib.Core.Bool.{Bool, true, false, cond}
 use mathlib.Core.List.{List}
-use Prim.Native.Nat.{ℕ, _+_, _*_, _/_, _%_, _^_, _≤_, _<_}
+use Prim.Native.Nat.{ℕ, _+_, _*_, _/_, _%_, _^_, _<_}
 use native.Mathlib.Omega.{arith}
-use lib.Dec.{ltb}
-use lib.ListN.{length}
+use Rattle.std.specs.declared.option.Option.{Option}
 use Rattle.std.specs.declared.option.Option.the-variants.{Some, None}
-use Rattle.std.proofs.shelf.Tests.{lt-ltb, le-ltb, ltb-true, ltb-false}
+use Rattle.std.proofs.shelf.Tests.{lt-ltb, ltb-true}
 use Rattle.paging.specs.declared.Paging.{Paging}
 use Rattle.paging.specs.declared.Cache.{Cache}
-use Rattle.paging.specs.Tables.{frame-of, place, Slot}
+use Rattle.paging.specs.Tables.{frame-of, place}
 use Rattle.paging.specs.Tables.Slot.{page}
 use Rattle.paging.specs.Pages.{held, Byte, Sound, Remembers}
 use Rattle.paging.specs.Accesses.{has, if-has, Within}
@@ -50,6 +49,10 @@ found-some g p a v x e = go (has g p a) refl e
     go true t h = (ltb-true _ _ t, cc)
     go false t h = let o : _≡_ {A = ℕ} 0 1 = cc in absurd (omega arith)
 
+-- the same after a `?`
+pub found-by : (g : Paging) (p a v x : ℕ) (o : Option ℕ) → o ≡ Some x → o ≡ if-has g p a v → (a / 4096 < held g p) × (x ≡ v)
+found-by g p a v x o e h = found-some g p a v x (sym e ∙ h)
+
 pub found-none : (g : Paging) (p a v : ℕ) → None ≡ if-has g p a v → has g p a ≡ false
 found-none g p a v e = go (has g p a) refl e
   where
@@ -60,6 +63,3 @@ found-none g p a v e = go (has g p a) refl e
 -- a value at the place that find answers is the value at the address
 pub loaded-some : (g : Paging) (p a v w : ℕ) → a / 4096 < held g p → v ≡ w → Some v ≡ if-has g p a w
 loaded-some g p a v w h e = rw (lt-ltb (a / 4096) (held g p) h, e)
-
-pub loaded-none : (g : Paging) (p a v w : ℕ) → None ≡ if-has g p a v → None ≡ if-has g p a w
-loaded-none g p a v w h = rw (found-none g p a v h)

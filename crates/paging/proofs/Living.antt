@@ -1,16 +1,16 @@
 -- Processes begin and end page by page. Assumes nothing.
 use mathlib.Core.Path.{_≡_, refl, sym, ap, _∙_}
-use mathlib.Core.Logic.{_≢_, _⊎_, inl, inr, ⊎-elim}
+use mathlib.Core.Logic.{_≢_, ⊎-elim}
 use mathlib.Core.List.{List}
-use Prim.Native.Nat.{ℕ, _+_, _-_, _*_, _/_, _%_, _≤_, _<_}
+use Prim.Native.Nat.{ℕ, _+_, _-_, _*_, _/_, _≤_, _<_}
 use native.Mathlib.Omega.{arith}
-use lib.ListN.{length, getD, set}
+use lib.ListN.{length, set}
 use Rattle.std.proofs.shelf.Lists.{set-set, set-getD}
 use Rattle.std.proofs.shelf.Tests.{cases-eq}
 use Rattle.paging.specs.declared.Paging.{Paging}
-use Rattle.paging.specs.Tables.{byte-of, free-at, Tops, Slot, frame-at}
+use Rattle.paging.specs.Tables.{free-at, Tops, Slot, frame-at}
 use Rattle.paging.specs.Tables.Slot.{page, free}
-use Rattle.paging.specs.Pages.{held, Byte, In, Sound, with-pages}
+use Rattle.paging.specs.Pages.{held, In, Sound, with-pages}
 use Rattle.paging.specs.Changes.{Kept, Others, Filled, Begun, Ended}
 use Rattle.paging.proofs.Moving.{held-same, held-other}
 

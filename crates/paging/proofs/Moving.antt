@@ -1,5 +1,5 @@
 -- A frame moves from one slot to another: from the stack to a page, or back. Assumes nothing.
-use mathlib.Core.Path.{_≡_, refl, sym, ap, _∙_}
+use mathlib.Core.Path.{_≡_, sym, ap, _∙_}
 use mathlib.Core.Logic.{_≢_, _⊎_, inl, inr, ⊎-elim}
 use mathlib.Core.List.{List}
 use Prim.Native.Nat.{ℕ, _+_, _-_, _*_, _/_, _%_, _≤_, _<_}
@@ -9,9 +9,9 @@ use lib.Seq.{getD-set-same, getD-set-other}
 use Rattle.std.proofs.shelf.Tests.{cases-eq}
 use Rattle.paging.specs.declared.Paging.{Paging}
 use Rattle.paging.specs.declared.Cache.{Cache}
-use Rattle.paging.specs.Tables.{entry-of, frame-of, place, byte-of, free-at, Tops, Slot, frame-at, Slots, Slotted}
+use Rattle.paging.specs.Tables.{frame-of, place, byte-of, free-at, Slot, frame-at, Slots, Slotted}
 use Rattle.paging.specs.Tables.Slot.{page, free}
-use Rattle.paging.specs.Pages.{held, Byte, In, Sound, with-pages, Remembers}
+use Rattle.paging.specs.Pages.{held, In, Sound, Remembers}
 use Rattle.paging.specs.Changes.{Kept, Others}
 
 pub held-same : (g h : Paging) (p n : ℕ) → h .pages ≡ set (g .pages) p n → length (g .pages) ≡ 64 → p < 64 → held h p ≡ n

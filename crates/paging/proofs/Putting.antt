@@ -1,8 +1,8 @@
 -- Bytes are put into one page, or into several, one after the other. Assumes nothing.
 use mathlib.Core.Path.{_≡_, refl, sym, ap, _∙_}
-use mathlib.Core.Logic.{_≢_, _⊎_, inl, inr, ⊎-elim}
+use mathlib.Core.Logic.{inl, inr, ⊎-elim}
 use mathlib.Core.List.{List}
-use Prim.Native.Nat.{ℕ, _+_, _-_, _*_, _/_, _%_, _≤_, _<_, min}
+use Prim.Native.Nat.{ℕ, _+_, _-_, _*_, _/_, _%_, _≤_, _<_}
 use native.Mathlib.Omega.{arith}
 use lib.ListN.{length, getD, take, drop}
 use Rattle.std.proofs.shelf.Lists.{length-take-le, length-drop, getD-take, getD-drop}
@@ -11,7 +11,7 @@ use Rattle.bytes.specs.Rows.{over}
 use Rattle.bytes.specs.Words.{half-at, word-at}
 use Rattle.bytes.proofs.Over.{length-over, getD-over-in, getD-over-out}
 use Rattle.paging.specs.declared.Paging.{Paging}
-use Rattle.paging.specs.Tables.{frame-of, place, byte-of}
+use Rattle.paging.specs.Tables.{place, byte-of}
 use Rattle.paging.specs.Pages.{held, Byte, Sound}
 use Rattle.paging.specs.Changes.{Put, Stored}
 use Rattle.paging.specs.Frames.{Else-kept}
@@ -90,10 +90,6 @@ stored-over g f s p a ys u page =
     let w = place-within g f s p a u in
     put-page g f _ s p a (length ys) _ u page (length-over f (place f p a) ys (omega arith)) (λ k l. getD-over-in f (place f p a) ys k 0 l)
     (record { low = λ k l. getD-over-out f (place f p a) ys k 0 (omega arith) (inl l); high = λ k l. getD-over-out f (place f p a) ys k 0 (omega arith) (inr l) })
-
--- nothing is put
-pub put-none : (g : Paging) (f : List ℕ) (p a : ℕ) (v : ℕ → ℕ) → Sound g f → Put g f f p a 0 v
-put-none g f p a v s = record { sound = s; here = λ k l. absurd (omega arith); same = λ x t o. refl; others = λ q x ne t. refl; caches = λ q c m. m }
 
 -- some bytes, and then those behind them
 pub put-more : (g : Paging) (f e d : List ℕ) (p a k n : ℕ) (v w : ℕ → ℕ) → p < 64 → a + k ≤ held g p * 4096 → Put g f e p a k v → Put g e d p (a + k) n w → ((j : ℕ) → j < n → w j ≡ v (k + j))

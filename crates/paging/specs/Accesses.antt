@@ -1,14 +1,13 @@
 -- What an access at an address finds. Assumes nothing: these are definitions.
-use mathlib.Core.Path.{_≡_}
 use mathlib.Core.Bool.{Bool, cond}
 use mathlib.Core.List.{List}
-use Prim.Native.Nat.{ℕ, _+_, _*_, _/_, _%_, _<_, _≤_}
+use Prim.Native.Nat.{ℕ, _+_, _*_, _/_, _%_, _≤_}
 use lib.Dec.{ltb}
 use lib.ListN.{length}
 use Rattle.std.specs.declared.option.Option.{Option}
 use Rattle.std.specs.declared.option.Option.the-variants.{Some, None}
 use Rattle.paging.specs.declared.Paging.{Paging}
-use Rattle.paging.specs.Tables.{place, byte-of}
+use Rattle.paging.specs.Tables.{byte-of}
 use Rattle.paging.specs.Pages.{held}
 
 -- process p has a byte at address a

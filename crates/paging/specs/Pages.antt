@@ -6,7 +6,7 @@ use lib.ListN.{length, getD, set}
 use Rattle.turns.specs.declared.vocabulary.Sizes.{Sizes}
 use Rattle.paging.specs.declared.Paging.{Paging}
 use Rattle.paging.specs.declared.Cache.{Cache}
-use Rattle.paging.specs.Tables.{frame-of, byte-of, Tops, Slot, frame-at}
+use Rattle.paging.specs.Tables.{frame-of, Tops, Slot, frame-at}
 use Rattle.paging.specs.Tables.Slot.{page, free}
 
 -- how many pages process p has

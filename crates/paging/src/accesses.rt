@@ -1,9 +1,8 @@
 // Loads and stores of a running process, through the page that was used last.
 ghost use mathlib.Core.Path.{_≡_};
 ghost use mathlib.Core.Bool.{true, false};
-ghost use Prim.Native.Nat.{ℕ, _+_, _-_, _*_, _/_, _%_, _^_, _<_, _≤_};
+ghost use Prim.Native.Nat.{_%_, _<_};
 ghost use mathlib.Core.List.{[], _∷_};
-ghost use lib.ListN.{length, getD, set};
 ghost use Rattle.bytes.specs.Words.{half-bytes, word-bytes};
 ghost use Rattle.paging.specs.Tables.{place, byte-of};
 ghost use Rattle.paging.specs.Pages.{Sound, Remembers, Forgotten};
@@ -56,9 +55,7 @@ impl Cache {
         ensures value { λ r. ⌜ r ≡ if-has (now (paging .entry)) p a (byte-of (now (frames .entry)) p a) ⌝ }
         ensures holds { λ _. ⌜ Remembers (now (paging .entry)) (now (frames .entry)) p (now (self .exit)) ⌝ }
     {
-        let Some(at) = self.find(paging, frames, p, a) else {
-            return None;
-        };
+        let at = self.find(paging, frames, p, a)?;
         Some(frames[at])
     }
 
@@ -71,9 +68,7 @@ impl Cache {
         ensures value { λ r. ⌜ r ≡ if-has (now (paging .entry)) p a (half-of (now (frames .entry)) p a) ⌝ }
         ensures holds { λ _. ⌜ Remembers (now (paging .entry)) (now (frames .entry)) p (now (self .exit)) ⌝ }
     {
-        let Some(at) = self.find(paging, frames, p, a) else {
-            return None;
-        };
+        let at = self.find(paging, frames, p, a)?;
         Some(half(frames, at))
     }
 
@@ -86,9 +81,7 @@ impl Cache {
         ensures value { λ r. ⌜ r ≡ if-has (now (paging .entry)) p a (word-of (now (frames .entry)) p a) ⌝ }
         ensures holds { λ _. ⌜ Remembers (now (paging .entry)) (now (frames .entry)) p (now (self .exit)) ⌝ }
     {
-        let Some(at) = self.find(paging, frames, p, a) else {
-            return None;
-        };
+        let at = self.find(paging, frames, p, a)?;
         Some(word(frames, at))
     }
 

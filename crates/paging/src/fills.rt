@@ -1,7 +1,5 @@
 // A page is overwritten whole.
-ghost use mathlib.Core.Path.{_≡_};
-ghost use Prim.Native.Nat.{ℕ, _+_, _-_, _*_, _/_, _%_, _^_, _<_, _≤_};
-ghost use lib.ListN.{length, getD, set};
+ghost use Prim.Native.Nat.{_<_};
 ghost use Rattle.paging.specs.Tables.{byte-of};
 ghost use Rattle.paging.specs.Pages.{Sound, held};
 ghost use Rattle.paging.specs.Changes.{Filled};

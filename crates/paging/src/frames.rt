@@ -1,7 +1,7 @@
 // Whole frames: each is a part of the lent memory, lent on to be written.
 ghost use mathlib.Core.Path.{_≡_};
-ghost use Prim.Native.Nat.{ℕ, _+_, _-_, _*_, _/_, _%_, _^_, _<_, _≤_};
-ghost use lib.ListN.{length, getD, set, replicate, take, drop};
+ghost use Prim.Native.Nat.{ℕ, _+_, _*_, _^_, _<_, _≤_};
+ghost use lib.ListN.{length, getD, replicate};
 ghost use Rattle.paging.specs.Frames.{Else-kept};
 
 // Zeros in a part of memory.

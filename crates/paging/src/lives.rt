@@ -1,7 +1,7 @@
 // Processes begin, with zeros or as a copy of another, and end.
 ghost use mathlib.Core.Path.{_≡_};
-ghost use Prim.Native.Nat.{ℕ, _+_, _-_, _*_, _/_, _%_, _^_, _<_, _≤_};
-ghost use lib.ListN.{length, getD, set};
+ghost use Prim.Native.Nat.{ℕ, _+_, _*_, _/_, _%_, _<_, _≤_};
+ghost use lib.ListN.{length};
 ghost use Rattle.paging.specs.Tables.{byte-of};
 ghost use Rattle.paging.specs.Pages.{Sound, Enough, held};
 ghost use Rattle.paging.specs.Changes.{Begun, Ended};

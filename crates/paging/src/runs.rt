@@ -1,7 +1,7 @@
 // Stretches of a process's memory, by the longest runs within a page.
 ghost use mathlib.Core.Path.{_≡_};
-ghost use Prim.Native.Nat.{ℕ, _+_, _-_, _*_, _/_, _%_, _^_, _<_, _≤_, min};
-ghost use lib.ListN.{length, getD, set};
+ghost use Prim.Native.Nat.{ℕ, _+_, _-_, _*_, _/_, _%_, _<_, _≤_, min};
+ghost use lib.ListN.{length, getD};
 ghost use Rattle.paging.specs.Tables.{place, byte-of};
 ghost use Rattle.paging.specs.Pages.{Sound, held};
 ghost use Rattle.paging.specs.Changes.{Put, Stored};

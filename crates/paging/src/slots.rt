@@ -1,8 +1,8 @@
 // Writing the numbers of frames: into page tables, and onto the stack of free frames.
 ghost use mathlib.Core.Path.{_≡_};
-ghost use Prim.Native.Nat.{ℕ, _+_, _-_, _*_, _/_, _%_, _^_, _<_, _≤_};
-ghost use lib.ListN.{length, getD, set};
-ghost use Rattle.paging.specs.Tables.{frame-of, free-at, Tops, Slot, frame-at, Slotted};
+ghost use Prim.Native.Nat.{_<_, _≤_};
+ghost use lib.ListN.{length};
+ghost use Rattle.paging.specs.Tables.{free-at, Tops, Slotted};
 ghost use Rattle.paging.specs.Tables.Slot.{page, free};
 use crate::tables::entry;
 use crate::tables::leaf;

@@ -1,7 +1,6 @@
 // Frames are handed out and given back, one at a time.
 ghost use mathlib.Core.Path.{_≡_};
-ghost use Prim.Native.Nat.{ℕ, _+_, _-_, _*_, _/_, _%_, _^_, _<_, _≤_};
-ghost use lib.ListN.{length, getD, set};
+ghost use Prim.Native.Nat.{_+_, _-_, _<_};
 ghost use Rattle.paging.specs.Pages.{Sound, held, with-pages};
 ghost use Rattle.paging.specs.Changes.{Kept, Others};
 use crate::Paging;

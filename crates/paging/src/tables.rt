@@ -1,8 +1,8 @@
 // Walking the page tables: from a process and a page to its frame.
 ghost use mathlib.Core.Path.{_≡_};
-ghost use Prim.Native.Nat.{ℕ, _+_, _*_, _/_, _%_, _^_, _<_, _≤_};
-ghost use lib.ListN.{length, getD};
-ghost use Rattle.paging.specs.Tables.{entry-of, frame-of, place, Tops};
+ghost use Prim.Native.Nat.{_+_, _*_, _/_, _^_, _<_, _≤_};
+ghost use lib.ListN.{length};
+ghost use Rattle.paging.specs.Tables.{entry-of, frame-of, Tops};
 use bytes::word;
 
 // Entry `k` of table `t`.

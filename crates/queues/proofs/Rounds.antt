@@ -1,11 +1,10 @@
 -- Rings. Assumes nothing.
-use mathlib.Core.Path.{_≡_, refl, sym, ap, _∙_}
-use mathlib.Core.Logic.{_≢_, _⊎_, inl, inr, ⊎-elim}
-use mathlib.Core.List.{List, [], _∷_, _++_, map}
+use mathlib.Core.Path.{_≡_, sym, ap, _∙_}
+use mathlib.Core.Logic.{⊎-elim}
+use mathlib.Core.List.{List, [], _++_}
 use Prim.Native.Nat.{ℕ, _+_, _-_, _*_, _%_, _≤_, _<_}
 use native.Mathlib.Omega.{arith}
 use lib.ListN.{length, getD, take, drop}
-use Rattle.std.specs.Iters.{counting}
 use Rattle.std.proofs.shelf.Lists.{ext-getD, length-append, length-drop, length-take-le, getD-take, getD-drop, getD-append-left, getD-append-right, take-take, drop-take, take-append-drop, append-assoc}
 use Rattle.std.proofs.shelf.Tests.{cases-lt, cases-order}
 use Rattle.std.proofs.shelf.Counted.{length-map-counting, getD-map-counting}

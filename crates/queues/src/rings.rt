@@ -1,7 +1,7 @@
 // Queues: put at the back, take from the front.
 ghost use mathlib.Core.Path.{_≡_};
-ghost use mathlib.Core.List.{List, [], _++_};
-ghost use Prim.Native.Nat.{ℕ, _+_, _-_, _*_, _/_, _%_, _^_, _<_, _≤_, min};
+ghost use mathlib.Core.List.{_++_};
+ghost use Prim.Native.Nat.{ℕ, _+_, _-_, _*_, _<_, _≤_, min};
 ghost use lib.ListN.{length, getD, take, drop};
 ghost use Rattle.queues.specs.Rings.{Round, queued, Others-kept, Empty, Shorter};
 use crate::Queue;

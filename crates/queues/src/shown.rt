@@ -1,10 +1,10 @@
 // What screens show.
 ghost use mathlib.Core.Path.{_≡_};
 ghost use mathlib.Core.Bool.{true, false, cond};
-ghost use mathlib.Core.List.{List, [], _++_};
-ghost use Prim.Native.Nat.{ℕ, _+_, _-_, _*_, _/_, _%_, _^_, _<_, _≤_};
+ghost use mathlib.Core.List.{List, []};
+ghost use Prim.Native.Nat.{ℕ, _+_, _^_, _<_, _≤_};
 ghost use lib.Dec.{ltb, leb};
-ghost use lib.ListN.{length, getD, take, drop};
+ghost use lib.ListN.{length};
 ghost use Rattle.queues.specs.Screens.{begin-of, Packed, screen-of, total, Appended, Inserted};
 use crate::Screens;
 

@@ -1,5 +1,4 @@
 use native.Mathlib.Omega.{arith}
-use Prim.Native.Nat.{_/_}
 use Rattle.paging.proofs.Finding.{Located, located-new, located-old, located-value, located-holds, located-within}
 use Rattle.paging.proofs.Cache.find.Needs as need
 use Rattle.paging.proofs.Cache.find.Needs.{then-page-self·else-page-paging, else-page-self}

@@ -1,13 +1,9 @@
 use native.Mathlib.Omega.{arith}
-use mathlib.Core.Path.{refl, ap, sym, _∙_, _≡_}
-use mathlib.Core.Bool.{true, false}
-use mathlib.Core.List.{[], _∷_}
+use mathlib.Core.Path.{sym, _≡_}
 use Prim.Native.Nat.{ℕ}
 use Rattle.std.proofs.shelf.Tests.{lt-ltb}
 use Rattle.bytes.specs.Words.{half-bytes}
-use Rattle.bytes.specs.Rows.{over}
 use Rattle.paging.specs.Tables.{place}
-use Rattle.paging.specs.Changes.{Stored}
 use Rattle.paging.proofs.Putting.{stored-over}
 use Rattle.paging.proofs.Finding.{found-some}
 use Rattle.paging.proofs.Cache.store_half.Needs as need

@@ -1,7 +1,6 @@
 use native.Mathlib.Omega.{arith}
 use mathlib.Core.Path.{refl, ap, _≡_}
-use Prim.Native.Nat.{_/_, _≤_, _+_}
-use Rattle.paging.specs.Pages.{held, Enough}
+use Prim.Native.Nat.{_/_}
 use Rattle.paging.specs.Changes.{Begun}
 use Rattle.paging.proofs.Moving.{held-same}
 use Rattle.paging.proofs.Counting.{enough-free, enough-with}

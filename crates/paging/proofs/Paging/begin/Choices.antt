@@ -1,4 +1,3 @@
-use Rattle.paging.specs.Tables.{byte-of}
 use Rattle.paging.specs.Changes.{Begun}
 use Rattle.paging.proofs.Paging.begin.Given as given
 

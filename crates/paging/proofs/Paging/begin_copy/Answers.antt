@@ -1,9 +1,7 @@
 use native.Mathlib.Omega.{arith}
-use mathlib.Core.Path.{refl, ap, _≡_, _∙_}
-use mathlib.Core.Logic.{_≢_}
-use Prim.Native.Nat.{_/_, _≤_, _+_}
+use mathlib.Core.Path.{ap, _≡_, _∙_}
+use Prim.Native.Nat.{_/_}
 use Rattle.paging.specs.Tables.{byte-of}
-use Rattle.paging.specs.Pages.{held, Enough}
 use Rattle.paging.specs.Changes.{Begun}
 use Rattle.paging.proofs.Moving.{held-same, held-other}
 use Rattle.paging.proofs.Counting.{enough-free, enough-with}

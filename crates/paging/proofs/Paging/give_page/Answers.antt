@@ -1,8 +1,7 @@
 use native.Mathlib.Omega.{arith}
 use mathlib.Core.Path.{refl, ap}
-use Prim.Native.Nat.{ℕ, _+_, _-_}
+use Prim.Native.Nat.{ℕ, _+_}
 use lib.ListN.{set}
-use Rattle.paging.specs.declared.Paging.{Paging}
 use Rattle.paging.specs.Pages.{held}
 use Rattle.paging.proofs.Moving.{given-sound, given-kept}
 use Rattle.paging.proofs.Paging.give_page.Needs as need

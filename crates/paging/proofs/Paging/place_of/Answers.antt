@@ -1,4 +1,3 @@
-use native.Mathlib.Omega.{arith}
 use mathlib.Core.Path.{refl}
 use Rattle.paging.specs.Tables.{place}
 use Rattle.paging.proofs.Filling.{place-above, place-within}

@@ -2,7 +2,7 @@ use borrow.Author.Count.{below-more}
 use native.Mathlib.Nat.{mul-le-mul}
 use native.Mathlib.Omega.{arith}
 use mathlib.Core.Path.{_∙_, _≡_, sym}
-use Prim.Native.Nat.{ℕ, _/_, _*_, _≤_}
+use Prim.Native.Nat.{_/_, _*_, _≤_}
 use Rattle.turns.specs.declared.vocabulary.Sizes.{Sizes}
 use Rattle.paging.specs.Tables.Slot.{free}
 use Rattle.paging.proofs.Counting.{lacking-all}

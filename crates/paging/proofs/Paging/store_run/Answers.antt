@@ -1,9 +1,8 @@
 use native.Mathlib.Omega.{arith}
 use mathlib.Core.Path.{_≡_, _∙_, ap}
-use Prim.Native.Nat.{_+_, _-_, _≤_, _<_}
+use Prim.Native.Nat.{_+_, _-_, _≤_}
 use lib.ListN.{length, getD, take}
 use Rattle.std.proofs.shelf.Lists.{length-take-le, getD-take}
-use Rattle.paging.specs.Frames.{Else-kept}
 use Rattle.paging.specs.Tables.{place}
 use Rattle.paging.proofs.Parts.{part-in, part-else, part-long}
 use Rattle.paging.proofs.Putting.{put-page}

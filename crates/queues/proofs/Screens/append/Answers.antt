@@ -1,6 +1,6 @@
 use mathlib.Core.Path.{_≡_}
 use native.Mathlib.Omega.{arith}
-use Prim.Native.Nat.{ℕ, _+_, _≤_}
+use Prim.Native.Nat.{ℕ, _+_}
 use lib.ListN.{length}
 use Rattle.queues.proofs.Packs.{room-is, begin-up, append-packed, appended}
 use Rattle.queues.proofs.Screens.append.Needs as need

@@ -3,7 +3,6 @@ use mathlib.Core.Path.{_≡_, _∙_, sym}
 use native.Mathlib.Omega.{arith}
 use Prim.Native.Nat.{ℕ, _+_, _-_, _≤_, _<_}
 use lib.Dec.{leb}
-use lib.ListN.{length}
 use Rattle.std.proofs.shelf.Tests.{cases-lt, le-leb, lt-leb}
 use Rattle.queues.proofs.Packs.{total-is}
 use Rattle.queues.proofs.Screens.has_room.Needs as need
