@@ -13,7 +13,7 @@ use Rattle.bytes.proofs.Over.{length-over, getD-over-in, getD-over-out}
 use Rattle.paging.specs.declared.Paging.{Paging}
 use Rattle.paging.specs.Tables.{place, byte-of}
 use Rattle.paging.specs.Pages.{held, Byte, Sound}
-use Rattle.paging.specs.Changes.{Put, Stored}
+use Rattle.paging.specs.Changes.{Only, Put, Stored}
 use Rattle.paging.specs.Frames.{Else-kept}
 use Rattle.paging.specs.Accesses.{half-of, word-of}
 use Rattle.paging.proofs.Filling.{Tables-kept, place-kept, caches-kept, sound-kept, place-above, place-within, place-apart}
@@ -78,11 +78,9 @@ module _ (g : Paging) (f e : List ℕ) (s : Sound g f) (p a n : ℕ) (v : ℕ �
   pub put-page : Put g f e p a n v
   put-page =
       record {
-        sound = sound-kept g f e s kept long;
         here = in-page;
         same = λ x t o. out p x t (λ k l b. ⊎-elim (λ (h : x < a). omega (arith, b .1)) (λ (h : a + n ≤ x). omega (arith, b .1)) o);
-        others = λ q x ne t. out q x t (λ k l b. ne (b .0));
-        caches = caches-kept g f e s kept;
+        only = record { sound = sound-kept g f e s kept long; others = λ q x ne t. out q x t (λ k l b. ne (b .0)); caches = caches-kept g f e s kept };
       }
 
 pub stored-over : (g : Paging) (f : List ℕ) (s : Sound g f) (p a : ℕ) (ys : List ℕ) → Byte g p a → a % 4096 + length ys ≤ 4096 → Stored g f (over f (place f p a) ys) p a ys
@@ -91,15 +89,20 @@ stored-over g f s p a ys u page =
     put-page g f _ s p a (length ys) _ u page (length-over f (place f p a) ys (omega arith)) (λ k l. getD-over-in f (place f p a) ys k 0 l)
     (record { low = λ k l. getD-over-out f (place f p a) ys k 0 (omega arith) (inl l); high = λ k l. getD-over-out f (place f p a) ys k 0 (omega arith) (inr l) })
 
+-- nothing changed, or one change and then another
+pub only-none : (p : ℕ) (g : Paging) (f : List ℕ) → Sound g f → Only p g f f
+only-none p g f s = record { sound = s; others = λ q x ne t. refl; caches = λ q c m. m }
+
+pub only-then : (p : ℕ) (g : Paging) (f e d : List ℕ) → Only p g f e → Only p g e d → Only p g f d
+only-then p g f e d x y = record { sound = y .sound; others = λ q z ne t. y .others q z ne t ∙ x .others q z ne t; caches = λ q c m. y .caches q c (x .caches q c m) }
+
 -- some bytes, and then those behind them
 pub put-more : (g : Paging) (f e d : List ℕ) (p a k n : ℕ) (v w : ℕ → ℕ) → p < 64 → a + k ≤ held g p * 4096 → Put g f e p a k v → Put g e d p (a + k) n w → ((j : ℕ) → j < n → w j ≡ v (k + j))
     → Put g f d p a (k + n) v
 put-more g f e d p a k n v w hp within x y alike =
     record {
-      sound = y .sound;
       here = λ j l. ⊎-elim (λ (h : j < k). y .same (a + j) (hp, omega arith) (inl (omega arith)) ∙ x .here j h)
           (λ (h : k ≤ j). let o : a + k + (j - k) ≡ a + j = omega arith in let r : k + (j - k) ≡ j = omega arith in rw (o, r) at (y .here (j - k) (omega arith) ∙ alike (j - k) (omega arith))) (cases-lt j k);
       same = λ z t o. ⊎-elim (λ (h : z < a). y .same z t (inl (omega arith)) ∙ x .same z t (inl h)) (λ (h : a + (k + n) ≤ z). y .same z t (inr (omega arith)) ∙ x .same z t (inr (omega arith))) o;
-      others = λ q z ne t. y .others q z ne t ∙ x .others q z ne t;
-      caches = λ q c m. y .caches q c (x .caches q c m);
+      only = only-then p g f e d (x .only) (y .only);
     }

@@ -66,7 +66,7 @@ module _ (g : Paging) (f : List ℕ) (p : ℕ) (m : List ℕ) (see : Shows g f p
 
   -- what another process stores is not seen
   pub shows-apart : (e : List ℕ) (q a : ℕ) (ys : List ℕ) → p ≢ q → Stored g f e q a ys → Shows g e p m
-  shows-apart e q a ys ne w = record { process = see .process; long = see .long; each = λ x h. w .others p x ne (shows-byte x h) ∙ see .each x h }
+  shows-apart e q a ys ne w = record { process = see .process; long = see .long; each = λ x h. w .only .others p x ne (shows-byte x h) ∙ see .each x h }
 
   -- nor that another begins or ends
   pub shows-others : (h : Paging) (e : List ℕ) (q : ℕ) → p ≢ q → held h p ≡ held g p → Others q g f h e → Shows h e p m

@@ -39,13 +39,17 @@ pub record Ended (g : Paging) (f : List ℕ) (h : Paging) (e : List ℕ) (p n : 
   pub sound : Sound h e
   pub others : Others p g f h e
 
--- the n bytes of process p from address a on are v 0, v 1 and so on now; all other bytes of all processes are as they were, and what was remembered holds
-pub record Put (g : Paging) (f e : List ℕ) (p a n : ℕ) (v : ℕ → ℕ) : Type 0 where
+-- nothing but bytes of process p changed: the tables are in order, all other processes' bytes are as they were, and what was remembered holds
+pub record Only (p : ℕ) (g : Paging) (f e : List ℕ) : Type 0 where
   pub sound : Sound g e
-  pub here : (k : ℕ) → k < n → byte-of e p (a + k) ≡ v k
-  pub same : (x : ℕ) → Byte g p x → (x < a) ⊎ (a + n ≤ x) → byte-of e p x ≡ byte-of f p x
   pub others : (q x : ℕ) → (q ≡ p → ⊥) → Byte g q x → byte-of e q x ≡ byte-of f q x
   pub caches : (q : ℕ) (c : Cache) → Remembers g f q c → Remembers g e q c
+
+-- the n bytes of process p from address a on are v 0, v 1 and so on now, and nothing else changed
+pub record Put (g : Paging) (f e : List ℕ) (p a n : ℕ) (v : ℕ → ℕ) : Type 0 where
+  pub here : (k : ℕ) → k < n → byte-of e p (a + k) ≡ v k
+  pub same : (x : ℕ) → Byte g p x → (x < a) ⊎ (a + n ≤ x) → byte-of e p x ≡ byte-of f p x
+  pub only : Only p g f e
 
 -- the bytes ys are put from address a on
 abbrev pub Stored : Paging → List ℕ → List ℕ → ℕ → ℕ → List ℕ → Type 0

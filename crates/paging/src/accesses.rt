@@ -6,7 +6,7 @@ ghost use mathlib.Core.List.{[], _∷_};
 ghost use Rattle.bytes.specs.Words.{half-bytes, word-bytes};
 ghost use Rattle.paging.specs.Tables.{place, byte-of};
 ghost use Rattle.paging.specs.Pages.{Sound, Remembers, Forgotten};
-ghost use Rattle.paging.specs.Changes.{Stored};
+ghost use Rattle.paging.specs.Changes.{Stored, Only};
 ghost use Rattle.paging.specs.Accesses.{has, if-has, half-of, word-of, Within};
 use crate::Cache;
 use crate::Paging;
@@ -100,6 +100,7 @@ impl Cache {
         ensures done { λ r. ⌜ r ≡ has (now (paging .entry)) p a ⌝ }
         ensures stored { λ r. ⌜ (r ≡ true → Stored (now (paging .entry)) (now (frames .entry)) (now (frames .exit)) p a (value ∷ [])) ⌝ }
         ensures nothing { λ r. ⌜ (r ≡ false → now (frames .exit) ≡ now (frames .entry)) ⌝ }
+        ensures only { λ _. ⌜ Only p (now (paging .entry)) (now (frames .entry)) (now (frames .exit)) ⌝ }
         ensures holds { λ _. ⌜ Remembers (now (paging .entry)) (now (frames .exit)) p (now (self .exit)) ⌝ }
     {
         let Some(at) = self.find(paging, frames, p, a) else {
@@ -125,6 +126,7 @@ impl Cache {
         ensures done { λ r. ⌜ r ≡ has (now (paging .entry)) p a ⌝ }
         ensures stored { λ r. ⌜ (r ≡ true → Stored (now (paging .entry)) (now (frames .entry)) (now (frames .exit)) p a (half-bytes value)) ⌝ }
         ensures nothing { λ r. ⌜ (r ≡ false → now (frames .exit) ≡ now (frames .entry)) ⌝ }
+        ensures only { λ _. ⌜ Only p (now (paging .entry)) (now (frames .entry)) (now (frames .exit)) ⌝ }
         ensures holds { λ _. ⌜ Remembers (now (paging .entry)) (now (frames .exit)) p (now (self .exit)) ⌝ }
     {
         let Some(at) = self.find(paging, frames, p, a) else {
@@ -150,6 +152,7 @@ impl Cache {
         ensures done { λ r. ⌜ r ≡ has (now (paging .entry)) p a ⌝ }
         ensures stored { λ r. ⌜ (r ≡ true → Stored (now (paging .entry)) (now (frames .entry)) (now (frames .exit)) p a (word-bytes value)) ⌝ }
         ensures nothing { λ r. ⌜ (r ≡ false → now (frames .exit) ≡ now (frames .entry)) ⌝ }
+        ensures only { λ _. ⌜ Only p (now (paging .entry)) (now (frames .entry)) (now (frames .exit)) ⌝ }
         ensures holds { λ _. ⌜ Remembers (now (paging .entry)) (now (frames .exit)) p (now (self .exit)) ⌝ }
     {
         let Some(at) = self.find(paging, frames, p, a) else {

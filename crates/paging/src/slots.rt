@@ -4,7 +4,6 @@ ghost use Prim.Native.Nat.{_<_, _≤_};
 ghost use lib.ListN.{length};
 ghost use Rattle.paging.specs.Tables.{free-at, Tops, Slotted};
 ghost use Rattle.paging.specs.Tables.Slot.{page, free};
-use crate::tables::entry;
 use crate::tables::leaf;
 use bytes::put_word;
 use bytes::word;

@@ -16,4 +16,4 @@ returns c =
     let a = c .args .a in
     let here = found-some g p a (place f p a) (c .in-Some .at) (c .in-Some .ensures tt .value) in
     let s = rw (← here .1) at (stored-over g f (c .pre .sound) p a (half-bytes (c .args .value)) (c .pre .process, here .0) (omega arith)) in
-    rw (c .put-half .ensures .row) (record { done = sym (lt-ltb _ _ (here .0)); stored = λ _. s; nothing = λ b. absurd (let z : _≡_ {A = ℕ} 0 1 = cc in omega arith); holds = s .caches p _ (c .find .ensures .holds) })
+    rw (c .put-half .ensures .row) (record { done = sym (lt-ltb _ _ (here .0)); stored = λ _. s; only = s .only; nothing = λ b. absurd (let z : _≡_ {A = ℕ} 0 1 = cc in omega arith); holds = s .only .caches p _ (c .find .ensures .holds) })
