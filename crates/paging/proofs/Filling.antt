@@ -11,7 +11,7 @@ use Rattle.paging.specs.declared.Paging.{Paging}
 use Rattle.paging.specs.declared.Cache.{Cache}
 use Rattle.paging.specs.Tables.{entry-of, frame-of, place, byte-of, Tops, Slot, frame-at}
 use Rattle.paging.specs.Tables.Slot.{page}
-use Rattle.paging.specs.Pages.{Byte, In, Sound, Remembers}
+use Rattle.paging.specs.Pages.{Byte, In-use, Sound, Remembers}
 use Rattle.paging.specs.Changes.{Filled}
 use Rattle.paging.specs.Frames.{Else-kept}
 use Rattle.paging.proofs.Slotting.{slot-number, slot-at, slot-below}
@@ -30,7 +30,7 @@ module _ (g : Paging) (f e : List ℕ) (s : Sound g f) (kept : Tables-kept f e) 
   tops-kept p j hp hj = word-kept (p * 64 + j * 4) (omega arith) ∙ s .tops p j hp hj
 
   -- a slot in use holds what it held
-  pub slot-kept : (t : Slot) → In g t → frame-at e t ≡ frame-at f t
+  pub slot-kept : (t : Slot) → In-use g t → frame-at e t ≡ frame-at f t
   slot-kept t u =
       let v = in-slots g f s t u in
       slot-at e tops-kept t v ∙ word-kept (4096 + slot-number t * 4) (omega (arith, slot-below t v)) ∙ sym (slot-at f (s .tops) t v)
@@ -77,7 +77,7 @@ module _ (g : Paging) (f : List ℕ) (s : Sound g f) where
       (k, omega arith)
 
 -- one frame is written: all that lies elsewhere is kept
-module _ (g : Paging) (f e : List ℕ) (p i n : ℕ) (v : ℕ → ℕ) (s : Sound g f) (u : In g (page p i)) (is : n ≡ frame-of f p i) (long : length e ≡ length f)
+module _ (g : Paging) (f e : List ℕ) (p i n : ℕ) (v : ℕ → ℕ) (s : Sound g f) (u : In-use g (page p i)) (is : n ≡ frame-of f p i) (long : length e ≡ length f)
     (rest : Else-kept (n * 4096) (n * 4096 + 4096) f e) where
   kept-frame : Tables-kept f e
   kept-frame k l = rest .low k (omega (arith, s .usable (page p i) u .0))

@@ -10,7 +10,7 @@ use Rattle.std.proofs.shelf.Tests.{cases-eq}
 use Rattle.paging.specs.declared.Paging.{Paging}
 use Rattle.paging.specs.Tables.{free-at, Tops, Slot, frame-at}
 use Rattle.paging.specs.Tables.Slot.{page, free}
-use Rattle.paging.specs.Pages.{held, In, Sound, with-pages}
+use Rattle.paging.specs.Pages.{held, In-use, Sound, with-pages}
 use Rattle.paging.specs.Changes.{Kept, Others, Filled, Begun, Ended}
 use Rattle.paging.proofs.Moving.{held-same, held-other}
 
@@ -88,11 +88,11 @@ pub fresh : (g : Paging) (f : List ℕ) → length (g .pages) ≡ 64 → ((p : �
 fresh g f rows none low room tops at =
     record { rows = rows; few = λ p. omega (arith, none p); low = low; long = omega arith; tops = tops; usable = usable; apart = apart }
   where
-    usable : (s : Slot) → In g s → (80 ≤ frame-at f s) × (frame-at f s * 4096 + 4096 ≤ length f)
+    usable : (s : Slot) → In-use g s → (80 ≤ frame-at f s) × (frame-at f s * 4096 + 4096 ≤ length f)
     usable (page p i) u = absurd (omega (arith, u .1, none p))
     usable (free k) u = rw (at k u) (omega arith, omega arith)
 
-    apart : (s t : Slot) → In g s → In g t → frame-at f s ≡ frame-at f t → s ≡ t
+    apart : (s t : Slot) → In-use g s → In-use g t → frame-at f s ≡ frame-at f t → s ≡ t
     apart (page p i) t u w e = absurd (omega (arith, u .1, none p))
     apart (free k) (page p i) u w e = absurd (omega (arith, w .1, none p))
     apart (free k) (free j) u w e = let d : k ≡ j = omega (arith, at k u, at j w) in rw d

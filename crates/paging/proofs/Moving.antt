@@ -9,9 +9,9 @@ use lib.Seq.{getD-set-same, getD-set-other}
 use Rattle.std.proofs.shelf.Tests.{cases-eq}
 use Rattle.paging.specs.declared.Paging.{Paging}
 use Rattle.paging.specs.declared.Cache.{Cache}
-use Rattle.paging.specs.Tables.{frame-of, place, byte-of, free-at, Slot, frame-at, Slots, Slotted}
+use Rattle.paging.specs.Tables.{frame-of, place, byte-of, free-at, Slot, frame-at, Slot-there, Slotted}
 use Rattle.paging.specs.Tables.Slot.{page, free}
-use Rattle.paging.specs.Pages.{held, In, Sound, Remembers}
+use Rattle.paging.specs.Pages.{held, In-use, Sound, Remembers}
 use Rattle.paging.specs.Changes.{Kept, Others}
 
 pub held-same : (g h : Paging) (p n : ℕ) → h .pages ≡ set (g .pages) p n → length (g .pages) ≡ 64 → p < 64 → held h p ≡ n
@@ -26,7 +26,7 @@ few-set g h f p n s e l small q =
     ⊎-elim (λ (d : q ≡ p). rw (d, held-same g h p n e (s .rows) l) small) (λ (ne : q ≢ p). rw (held-other g h p n q e ne) (s .few q)) (cases-eq q p)
 
 -- a slot in use is one that there is
-pub in-slots : (g : Paging) (f : List ℕ) → Sound g f → (s : Slot) → In g s → Slots s
+pub in-slots : (g : Paging) (f : List ℕ) → Sound g f → (s : Slot) → In-use g s → Slot-there s
 in-slots g f s (page p i) u = (u .0, omega (arith, s .few p, u .1))
 in-slots g f s (free k) u = omega (arith, s .low)
 
@@ -44,16 +44,16 @@ cache-kept g h f e q c same m l =
 
 -- what was in slot `old` is in slot `new` now; the others in use were in use, are not `old`, and hold what they held
 From : (g h : Paging) (f e : List ℕ) (new old t : Slot) → Type 0
-From g h f e new old t = (t ≡ new) ⊎ (In g t × (t ≡ old → ⊥) × (frame-at e t ≡ frame-at f t))
+From g h f e new old t = (t ≡ new) ⊎ (In-use g t × (t ≡ old → ⊥) × (frame-at e t ≡ frame-at f t))
 
-module _ (g h : Paging) (f e : List ℕ) (s : Sound g f) (new old : Slot) (io : In g old) (is : frame-at e new ≡ frame-at f old) (long : length e ≡ length f)
-    (each : (t : Slot) → In h t → From g h f e new old t) where
-  moved-usable : (t : Slot) → In h t → (80 ≤ frame-at e t) × (frame-at e t * 4096 + 4096 ≤ length e)
+module _ (g h : Paging) (f e : List ℕ) (s : Sound g f) (new old : Slot) (io : In-use g old) (is : frame-at e new ≡ frame-at f old) (long : length e ≡ length f)
+    (each : (t : Slot) → In-use h t → From g h f e new old t) where
+  moved-usable : (t : Slot) → In-use h t → (80 ≤ frame-at e t) × (frame-at e t * 4096 + 4096 ≤ length e)
   unfolding From
   moved-usable t u =
       ⊎-elim (λ (d : t ≡ new). rw (d, is, long) (s .usable old io)) (λ k. rw (k .2, long) (s .usable t (k .0))) (each t u)
 
-  moved-apart : (t v : Slot) → In h t → In h v → frame-at e t ≡ frame-at e v → t ≡ v
+  moved-apart : (t v : Slot) → In-use h t → In-use h v → frame-at e t ≡ frame-at e v → t ≡ v
   unfolding From
   moved-apart t v u w same =
       ⊎-elim
@@ -65,7 +65,7 @@ module _ (g h : Paging) (f e : List ℕ) (s : Sound g f) (new old : Slot) (io : 
 -- the topmost free frame becomes the next page of process p
 module _ (g h : Paging) (f e : List ℕ) (p n : ℕ) (s : Sound g f) (hp : p < 64) (room : held g p < 256) (some : 0 < g .free) (less : h .free ≡ g .free - 1)
     (more : h .pages ≡ set (g .pages) p (held g p + 1)) (is : n ≡ free-at f (g .free - 1)) (put : Slotted f e (page p (held g p)) n) (long : length e ≡ length f) where
-  given-each : (t : Slot) → In h t → From g h f e (page p (held g p)) (free (g .free - 1)) t
+  given-each : (t : Slot) → In-use h t → From g h f e (page p (held g p)) (free (g .free - 1)) t
   unfolding From
   given-each (page q j) u =
       ⊎-elim
@@ -122,7 +122,7 @@ module _ (g h : Paging) (f e : List ℕ) (p n : ℕ) (s : Sound g f) (hp : p < 6
       ⊎-elim (λ (d : q ≡ p). let k : j < held g p - 1 = omega (arith, held-same g h p (held g p - 1) less (s .rows) hp, ap (held h) d) in (omega (arith, ap (held g) d), λ b. omega (arith, b .1)))
       (λ (ne : q ≢ p). (omega (arith, held-other g h p (held g p - 1) q less ne), λ b. ne (b .0))) (cases-eq q p)
 
-  taken-each : (t : Slot) → In h t → From g h f e (free (g .free)) (page p (held g p - 1)) t
+  taken-each : (t : Slot) → In-use h t → From g h f e (free (g .free)) (page p (held g p - 1)) t
   unfolding From
   taken-each (page q j) u =
       let k = taken-held q j (u .1) in
@@ -131,7 +131,7 @@ module _ (g h : Paging) (f e : List ℕ) (p n : ℕ) (s : Sound g f) (hp : p < 6
       ⊎-elim (λ (d : k ≡ g .free). inl (rw d))
       (λ (ne : k ≢ g .free). inr (omega arith, (λ b. let z : _≡_ {A = ℕ} 0 1 = cc in omega arith), put .same (free k) (omega (arith, s .low)) (λ b. ne (cc)))) (cases-eq k (g .free))
 
-  last-in : In g (page p (held g p - 1))
+  last-in : In-use g (page p (held g p - 1))
   last-in = (hp, omega arith)
 
   pub taken-sound : Sound h e

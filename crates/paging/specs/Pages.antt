@@ -18,9 +18,9 @@ abbrev pub Byte : Paging → ℕ → ℕ → Type 0
 Byte g p a = (p < 64) × (a / 4096 < held g p)
 
 -- a slot is in use: it holds the frame of a page that there is, or of one that is free
-abbrev pub In : Paging → Slot → Type 0
-In g (page p i) = (p < 64) × (i < held g p)
-In g (free k) = k < g .free
+abbrev pub In-use : Paging → Slot → Type 0
+In-use g (page p i) = (p < 64) × (i < held g p)
+In-use g (free k) = k < g .free
 
 -- The tables are in order: each frame in use lies behind the first 80 and within the lent memory, and no two slots hold the same one. So two pages never have
 -- the same frame, a free frame is no page's, and none is free twice.
@@ -30,8 +30,8 @@ pub record Sound (g : Paging) (f : List ℕ) : Type 0 where
   pub low : g .free ≤ 16384
   pub long : 327680 ≤ length f
   pub tops : Tops f
-  pub usable : (s : Slot) → In g s → (80 ≤ frame-at f s) × (frame-at f s * 4096 + 4096 ≤ length f)
-  pub apart : (s t : Slot) → In g s → In g t → frame-at f s ≡ frame-at f t → s ≡ t
+  pub usable : (s : Slot) → In-use g s → (80 ≤ frame-at f s) × (frame-at f s * 4096 + 4096 ≤ length f)
+  pub apart : (s t : Slot) → In-use g s → In-use g t → frame-at f s ≡ frame-at f t → s ≡ t
 
 -- process p has n pages now; the frames come from the free ones, or go to them
 abbrev pub with-pages : Paging → ℕ → ℕ → Paging

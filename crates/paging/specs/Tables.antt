@@ -41,13 +41,13 @@ frame-at f (page p i) = frame-of f p i
 frame-at f (free k) = free-at f k
 
 -- there is such a slot: for 64 processes of 256 pages, and as many free frames
-abbrev pub Slots : Slot → Type 0
-Slots (page p i) = (p < 64) × (i < 256)
-Slots (free k) = k < 16384
+abbrev pub Slot-there : Slot → Type 0
+Slot-there (page p i) = (p < 64) × (i < 256)
+Slot-there (free k) = k < 16384
 
 -- slot s holds n now; all other slots, the top tables and the frames behind the tables are as they were
 pub record Slotted (f g : List ℕ) (s : Slot) (n : ℕ) : Type 0 where
   pub tops : Tops g
   pub here : frame-at g s ≡ n
-  pub same : (t : Slot) → Slots t → (t ≡ s → ⊥) → frame-at g t ≡ frame-at f t
+  pub same : (t : Slot) → Slot-there t → (t ≡ s → ⊥) → frame-at g t ≡ frame-at f t
   pub above : (x : ℕ) → 327680 ≤ x → getD g x 0 ≡ getD f x 0

@@ -1,7 +1,7 @@
 // Loads and stores of a running process, through the page that was used last.
 ghost use mathlib.Core.Path.{_≡_};
 ghost use mathlib.Core.Bool.{true, false};
-ghost use Prim.Native.Nat.{_%_, _<_};
+ghost use Prim.Native.Nat.{_%_, _<_, _≤_};
 ghost use mathlib.Core.List.{[], _∷_};
 ghost use Rattle.bytes.specs.Words.{half-bytes, word-bytes};
 ghost use Rattle.paging.specs.Tables.{place, byte-of};
@@ -19,7 +19,8 @@ use bytes::word;
 impl Cache {
     // Nothing is remembered: this holds of every process, also of one whose tables were written.
     pub fn none() -> Cache
-        ensures { λ r. ⌜ Forgotten r ⌝ }
+        ensures forgotten { λ r. ⌜ Forgotten r ⌝ }
+        ensures beyond { λ r. ⌜ 1048576 ≤ r .page ⌝ }
     {
         Cache {
             page: 0xffff_ffff,

@@ -3,7 +3,7 @@ use mathlib.Core.Path.{_∙_}
 use Prim.Native.Nat.{_%_}
 use Rattle.paging.specs.Tables.{byte-of, place}
 use Rattle.paging.specs.Tables.Slot.{page}
-use Rattle.paging.specs.Pages.{In}
+use Rattle.paging.specs.Pages.{In-use}
 use Rattle.paging.proofs.Filling.{sound-frame, frame-filled}
 use Rattle.paging.proofs.Paging.copy_page.Needs as need
 
@@ -22,7 +22,7 @@ unfolding byte-of place
 returns c =
     let g = c .args .self .now in
     let f = c .args .frames .now in
-    let u : In g (page (c .args .to) (c .args .i)) = (c .pre .processes .1, c .pre .pages .1) in
+    let u : In-use g (page (c .args .to) (c .args .i)) = (c .pre .processes .1, c .pre .pages .1) in
     record {
       sound = sound-frame g f _ _ _ _ (byte-of f (c .args .from)) (c .pre .sound) u (c .frame-target .ensures .value) (omega arith) (c .copy-frame .ensures .rest);
       filled = frame-filled g f _ _ _ _ (byte-of f (c .args .from)) (c .pre .sound) u (c .frame-target .ensures .value) (omega arith) (c .copy-frame .ensures .rest)
