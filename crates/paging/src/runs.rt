@@ -1,4 +1,5 @@
-// Stretches of a process's memory, by the longest runs within a page.
+// Stretches of a process's memory, by the longest runs within a page. A long write goes run by run: what `run` lends can be handed on to a screen, a pipe or a file
+// as it is.
 ghost use mathlib.Core.Path.{_≡_};
 ghost use Prim.Native.Nat.{ℕ, _+_, _-_, _*_, _/_, _%_, _<_, _≤_, min};
 ghost use lib.ListN.{length, getD};
