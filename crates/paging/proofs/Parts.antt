@@ -1,20 +1,11 @@
--- Bytes after a write to a part of a slice. Assumes nothing.
+-- What a write to a part of a slice leaves. Assumes nothing.
 use mathlib.Core.Path.{_≡_}
 use mathlib.Core.List.{List}
-use Prim.Native.Nat.{ℕ, _+_, _-_, _≤_, _<_}
-use borrow.Author.Needs.{needs}
+use Prim.Native.Nat.{ℕ, _-_, _≤_}
 use borrow.Rule.Slice.PartMut.{putMid}
-use lib.ListN.{length, getD}
-use Rattle.std.proofs.shelf.Lists.{places}
+use lib.ListN.{length}
+use Rattle.bytes.proofs.Parts.{part-low, part-high}
 use Rattle.paging.specs.Frames.{Else-kept}
 
--- what a write to xs[a..e] leaves
-module _ (xs ys : List ℕ) (a e : ℕ) (long : length ys ≡ e - a) (le : a ≤ e) (fits : e ≤ length xs) where
-  pub part-in : (k : ℕ) → a + k < e → getD (putMid a (e - a) xs ys) (a + k) 0 ≡ getD ys k 0
-  part-in k h = search (needs, places)
-
-  pub part-else : Else-kept a e xs (putMid a (e - a) xs ys)
-  part-else = record { low = λ k h. search (needs, places); high = λ k h. search (needs, places) }
-
-  pub part-long : length (putMid a (e - a) xs ys) ≡ length xs
-  part-long = search (needs, places)
+pub part-else : (xs ys : List ℕ) (a e : ℕ) → length ys ≡ e - a → a ≤ e → e ≤ length xs → Else-kept a e xs (putMid a (e - a) xs ys)
+part-else xs ys a e long le fits = record { low = part-low xs ys a e long le fits; high = part-high xs ys a e long le fits }

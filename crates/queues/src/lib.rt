@@ -1,8 +1,6 @@
 // Rows of bytes in lent memory: queues, for keys and for pipes, and what screens show.
 mod rings;
 mod shown;
-#[cfg(test)]
-mod tests;
 
 // A queue of bytes: a ring in a row of 4,096 bytes. Row `t` lies at byte 4,096 * t of what is lent for all queues of a kind.
 #[derive(Clone, Copy)]

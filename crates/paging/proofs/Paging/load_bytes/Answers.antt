@@ -4,7 +4,8 @@ use mathlib.Core.Logic.{⊎-elim}
 use Prim.Native.Nat.{_+_, _-_, _≤_, _<_}
 use lib.ListN.{length, getD}
 use Rattle.std.proofs.shelf.Tests.{cases-lt}
-use Rattle.paging.proofs.Parts.{part-in, part-else}
+use Rattle.bytes.proofs.Parts.{part-in}
+use Rattle.paging.proofs.Parts.{part-else}
 use Rattle.paging.proofs.Paging.load_bytes.Needs as need
 
 pub loop-done-again : need.loop-done-again

@@ -4,7 +4,8 @@ use Prim.Native.Nat.{_+_, _-_, _≤_}
 use lib.ListN.{length, getD, take}
 use Rattle.std.proofs.shelf.Lists.{length-take-le, getD-take}
 use Rattle.paging.specs.Tables.{place}
-use Rattle.paging.proofs.Parts.{part-in, part-else, part-long}
+use Rattle.bytes.proofs.Parts.{part-in, part-long}
+use Rattle.paging.proofs.Parts.{part-else}
 use Rattle.paging.proofs.Putting.{put-page}
 use Rattle.paging.proofs.Paging.store_run.Needs as need
 

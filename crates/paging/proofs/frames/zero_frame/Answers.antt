@@ -3,7 +3,8 @@ use native.Mathlib.Omega.{arith}
 use Prim.Native.Nat.{_+_, _*_}
 use mathlib.Core.Path.{_∙_}
 use Rattle.std.proofs.shelf.Lists.{places}
-use Rattle.paging.proofs.Parts.{part-in, part-else}
+use Rattle.bytes.proofs.Parts.{part-in}
+use Rattle.paging.proofs.Parts.{part-else}
 use Rattle.paging.proofs.frames.zero_frame.Needs as need
 
 pub returns : need.returns

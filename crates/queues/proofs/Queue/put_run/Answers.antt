@@ -3,7 +3,7 @@ use native.Mathlib.Omega.{arith}
 use Prim.Native.Nat.{_+_, _-_, _*_, _%_, _≤_}
 use lib.ListN.{length, getD, take}
 use Rattle.std.proofs.shelf.Lists.{length-take-le, getD-take}
-use Rattle.queues.proofs.Parts.{part-in, part-low, part-high}
+use Rattle.bytes.proofs.Parts.{part-in, part-low, part-high}
 use Rattle.queues.proofs.Rounds.{put-queued, put-others}
 use Rattle.queues.proofs.Queue.put_run.Needs as need
 

@@ -6,7 +6,7 @@ use lib.ListN.{length, getD, take, drop}
 use Rattle.std.proofs.shelf.Lists.{drop-drop, ext-getD, getD-take, getD-drop, length-take-le}
 use Rattle.std.proofs.shelf.Tests.{cases-lt}
 use Rattle.queues.specs.Rings.{queued}
-use Rattle.queues.proofs.Parts.{part-in, part-low, part-high}
+use Rattle.bytes.proofs.Parts.{part-in, part-low, part-high}
 use Rattle.queues.proofs.Rounds.{length-queued}
 use Rattle.queues.proofs.Queue.take_into.Needs as need
 

@@ -2,7 +2,7 @@ use mathlib.Core.Path.{_≡_, _∙_, ap}
 use native.Mathlib.Omega.{arith}
 use Prim.Native.Nat.{_+_, _-_, _≤_}
 use lib.ListN.{length, getD}
-use Rattle.queues.proofs.Parts.{part-in, part-low, part-high}
+use Rattle.bytes.proofs.Parts.{part-in, part-low, part-high}
 use Rattle.queues.proofs.shown.insert.Needs as need
 
 pub returns : need.returns

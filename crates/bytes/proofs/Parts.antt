@@ -17,3 +17,6 @@ module _ (xs ys : List ℕ) (a e : ℕ) (long : length ys ≡ e - a) (le : a ≤
 
   pub part-high : (k : ℕ) → e ≤ k → getD (putMid a (e - a) xs ys) k 0 ≡ getD xs k 0
   part-high k h = search (needs, places)
+
+  pub part-long : length (putMid a (e - a) xs ys) ≡ length xs
+  part-long = search (needs, places)

@@ -1,6 +1,6 @@
-// Examples: a queue goes round its row, and screens grow in any order.
-use crate::Queue;
-use crate::Screens;
+// Queues and screens: a queue goes round its row, and screens grow in any order.
+use queues::Queue;
+use queues::Screens;
 use std::test::*;
 
 #[test]
