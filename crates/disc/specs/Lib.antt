@@ -1,2 +1,3 @@
 pub mod Blocks
 pub mod Writes
+pub mod Layout
