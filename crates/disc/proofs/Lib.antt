@@ -1,3 +1,4 @@
 pub mod Cuts
 pub mod Rows
 pub mod Places
+pub mod Verdicts

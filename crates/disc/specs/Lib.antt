@@ -1,3 +1,4 @@
 pub mod Blocks
 pub mod Writes
 pub mod Layout
+pub mod Check

@@ -1,3 +1,4 @@
 // A disc in lent bytes: blocks that are written as long as there is power, how files lie in them, which discs are taken, and how one is made.
 pub mod blocks;
+pub mod check;
 pub mod layout;
