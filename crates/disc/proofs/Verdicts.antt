@@ -6,22 +6,25 @@ use mathlib.Core.List.{List, [], _∷_}
 use Prim.Native.Nat.{ℕ, zero, suc, _+_, _-_, _*_, _/_, _%_, _≤_, _<_}
 use native.Mathlib.Omega.{arith}
 use lib.Dec.{eqb, leb, ltb}
-use lib.ListN.{length, getD}
+use lib.ListN.{length, getD, drop}
 use Rattle.std.specs.declared.option.Option.{Option}
 use Rattle.std.specs.declared.option.Option.the-variants.{Some, None}
+use Rattle.std.proofs.shelf.Lists.{getD-past}
 use Rattle.std.proofs.shelf.Counted.{getD-map-counting}
 use Rattle.std.proofs.shelf.Tests.{cond-both, cond-true, cond-false, both-ways, cases-bool, cases-eq, cases-lt, and-parts, and-from, or-parts, or-from, or-left, or-right, and-left, leb-true, leb-false, le-leb, lt-leb, ltb-true, ltb-false, lt-ltb, le-ltb, eqb-true, eq-eqb, ne-eqb, false≢true}
 use Rattle.bytes.specs.Rows.{lowest, some, Bytes}
 use Rattle.bytes.specs.Words.{word-at}
+use Rattle.bytes.proofs.Over.{bytes-take, bytes-drop}
 use Rattle.bytes.proofs.Lowest.{lowest-le, lowest-holds, lowest-below, some-at, some-none}
 use Rattle.turns.specs.Ranges.{In-range}
 use Rattle.turns.specs.declared.vocabulary.Sizes.{Sizes}
 use Rattle.disc.specs.Blocks.{Disc, at, blocks, Whole}
 use Rattle.disc.specs.Layout.{plan-of, head-at, room, current, header, current-header, length-in, Sound, Fit}
 use Rattle.disc.specs.declared.layout.Plan.{Plan}
-use Rattle.disc.specs.Check.{named, sizes-in, between, pages, ranges, first-false, first-out, too-long, wrong, first-wrong, block-refusal}
+use Rattle.disc.specs.Check.{named, sizes-in, between, pages, ranges, first-false, first-out, too-long, wrong, first-wrong, frames-for, length-refusal, name-refusal, size-refusal, block-refusal, frame-refusal, first-of, disc-sizes, disc-refusal, refusal-of, Taken, Taken-bytes, Enough}
 use Rattle.disc.specs.declared.check.Refusal.{Refusal}
 use Rattle.disc.specs.declared.check.Refusal.the-variants.{Length, Name, Size, Block, Frames}
+use Rattle.disc.proofs.Cuts.{length-blocks, getD-blocks, blocks-whole}
 use Rattle.disc.proofs.Places.{first-byte, first-word, below-two, current-two}
 
 -- block 0, from the bytes of the disc
@@ -29,6 +32,7 @@ pub named-first : (xs : List ℕ) → 512 ≤ length xs → named (at (blocks xs
 named-first xs l = rw (first-byte xs 0 (omega arith) l, first-byte xs 1 (omega arith) l, first-byte xs 2 (omega arith) l, first-byte xs 3 (omega arith) l)
 
 pub sizes-first : (xs : List ℕ) → 512 ≤ length xs → sizes-in (at (blocks xs) 0) ≡ sizes-in xs
+unfolding sizes-in
 sizes-first xs l =
     rw (
       first-word xs 4 (omega arith) l,
@@ -230,3 +234,111 @@ unfolding first-out
 first-out-none z bs e h =
     let n : length bs ≡ 10 = ap length e in
     ap (λ (x : List Bool). first-false x 0) (sym e) ∙ first-false-none bs 0 (λ k l. h k (omega arith))
+
+-- bytes of a disc are bytes of its blocks
+pub block-bytes : (xs : List ℕ) → Bytes xs → (i : ℕ) → Bytes (at (blocks xs) i)
+block-bytes xs h i =
+    ⊎-elim (λ (l : i < length xs / 512). rw (getD-blocks xs i [] l) (bytes-take 512 (drop (512 * i) xs) (bytes-drop (512 * i) xs h)))
+    (λ (l : length xs / 512 ≤ i). let n = length-blocks xs in rw (getD-past (blocks xs) i [] (omega arith)) (λ k. omega arith))
+    (cases-lt i (length xs / 512))
+
+-- what the single refusals say
+length-passed : (n : ℕ) → n % 512 ≡ 0 → 1024 ≤ n → n ≤ 67108864 → length-refusal n ≡ None
+length-passed n e l m =
+    cond-true (eqb (n % 512) 0 && between 1024 n 67108864) None (Some (Length n)) (and-from (eqb (n % 512) 0) (between 1024 n 67108864) (eq-eqb (n % 512) 0 e) (in-between 1024 n 67108864 l m))
+
+name-passed : (b : List ℕ) → name-refusal b ≡ None → named b ≡ true
+name-passed b e = ⊎-elim (λ t. t) (λ f. absurd (let z : _≡_ {A = ℕ} 0 1 = cc (cond-false (named b) None (Some Name) f) in omega arith)) (cases-bool (named b))
+
+size-passed : (o : Option ℕ) → size-refusal o ≡ None → o ≡ None
+size-passed None e = refl
+size-passed (Some i) e = let z : _≡_ {A = ℕ} 0 1 = cc in absurd (omega arith)
+
+block-passed : (n b : ℕ) → block-refusal n b ≡ None → n ≤ b
+block-passed n b e =
+    ⊎-elim (λ (l : b < n). absurd (let z : _≡_ {A = ℕ} 0 1 = cc (cond-true (ltb b n) (Some (Block (512 * b))) None (lt-ltb b n l)) in omega arith)) (λ (l : n ≤ b). l) (cases-lt b n)
+
+pub frames-passed : (n lent : ℕ) → frame-refusal n lent ≡ None → n ≤ lent / 4096
+frames-passed n lent e =
+    ⊎-elim (λ (l : lent / 4096 < n). absurd (let z : _≡_ {A = ℕ} 0 1 = cc (cond-true (ltb (lent / 4096) n) (Some (Frames n)) None (lt-ltb (lent / 4096) n l)) in omega arith)) (λ (l : n ≤ lent / 4096). l)
+    (cases-lt (lent / 4096) n)
+
+-- the first of the refusals
+module _ (xs : List ℕ) (e : Refusal) where
+  pub refused-1 : length-refusal (length xs) ≡ Some e → disc-refusal xs ≡ Some e
+  unfolding disc-refusal first-of
+  refused-1 a = rw a
+
+  pub refused-2 : length-refusal (length xs) ≡ None → name-refusal (at (blocks xs) 0) ≡ Some e → disc-refusal xs ≡ Some e
+  unfolding disc-refusal first-of
+  refused-2 a b = rw (a, b)
+
+  pub refused-3 : length-refusal (length xs) ≡ None → name-refusal (at (blocks xs) 0) ≡ None → size-refusal (first-out (disc-sizes xs)) ≡ Some e → disc-refusal xs ≡ Some e
+  unfolding disc-refusal first-of
+  refused-3 a b c = rw (a, b, c)
+
+  pub refused-4 : length-refusal (length xs) ≡ None → name-refusal (at (blocks xs) 0) ≡ None → size-refusal (first-out (disc-sizes xs)) ≡ None →
+      block-refusal (room (plan-of (disc-sizes xs))) (first-wrong (plan-of (disc-sizes xs)) (blocks xs)) ≡ Some e → disc-refusal xs ≡ Some e
+  unfolding disc-refusal first-of
+  refused-4 a b c d = rw (a, b, c, d)
+
+pub passed-4 : (xs : List ℕ) → length-refusal (length xs) ≡ None → name-refusal (at (blocks xs) 0) ≡ None → size-refusal (first-out (disc-sizes xs)) ≡ None →
+    block-refusal (room (plan-of (disc-sizes xs))) (first-wrong (plan-of (disc-sizes xs)) (blocks xs)) ≡ None → disc-refusal xs ≡ None
+unfolding disc-refusal first-of
+passed-4 xs a b c d = rw (a, b, c, d)
+
+-- NOT REFUSED IF AND ONLY IF TAKEN
+pub taken-if : (xs : List ℕ) → Bytes xs → 1024 ≤ length xs → length xs ≤ 67108864 → length xs % 512 ≡ 0 → name-refusal (at (blocks xs) 0) ≡ None → In-range (disc-sizes xs) →
+    block-refusal (room (plan-of (disc-sizes xs))) (first-wrong (plan-of (disc-sizes xs)) (blocks xs)) ≡ None → Taken-bytes (disc-sizes xs) xs
+taken-if xs h least most whole b r d =
+    let n = length-blocks xs in
+    let w = block-passed (room (plan-of (disc-sizes xs))) (first-wrong (plan-of (disc-sizes xs)) (blocks xs)) d in
+    let one : 1 ≤ plan-of (disc-sizes xs) .head = omega arith in (
+      record {
+        least = omega arith;
+        most = omega arith;
+        whole = blocks-whole xs;
+        bytes = block-bytes xs h;
+        name = name-passed (at (blocks xs) 0) b;
+        sizes = refl;
+        range = r;
+        large = large-if (plan-of (disc-sizes xs)) (blocks xs) (head-at (plan-of (disc-sizes xs)) (current (blocks xs))) one refl w;
+        sound = sound-if (plan-of (disc-sizes xs)) (blocks xs) (head-at (plan-of (disc-sizes xs)) (current (blocks xs))) one refl w;
+      },
+      whole,
+    )
+
+pub none-if : (xs : List ℕ) (z : Sizes) → Taken-bytes z xs → (disc-refusal xs ≡ None) × (disc-sizes xs ≡ z)
+none-if xs z t =
+    let n = length-blocks xs in
+    let k = t .0 in
+    let least = k .least in
+    let most = k .most in
+    let whole = t .1 in
+    let one : 1 ≤ plan-of z .head = omega arith in
+    let w = right-if (plan-of z) (blocks xs) (head-at (plan-of z) (current (blocks xs))) one refl (k .large) (k .sound) in (
+      passed-4 xs (length-passed (length xs) (t .1) (omega arith) (omega arith)) (cond-true (named (at (blocks xs) 0)) None (Some Name) (k .name))
+          (rw (k .sizes, if-range z (k .range)))
+          (rw (k .sizes) (rw w (cond-false (ltb (room (plan-of z)) (room (plan-of z))) (Some (Block (512 * room (plan-of z)))) None (le-ltb (room (plan-of z)) (room (plan-of z)) (omega arith))))),
+      k .sizes,
+    )
+
+pub never-refused : (xs : List ℕ) (e : Refusal) (z : Sizes) → disc-refusal xs ≡ Some e → Taken-bytes z xs → ⊥
+never-refused xs e z r t = let n = none-if xs z t .0 in let o : _≡_ {A = ℕ} 0 1 = cc in omega arith
+
+-- frames
+pub refused-first : (xs : List ℕ) (lent : ℕ) (e : Refusal) → disc-refusal xs ≡ Some e → refusal-of xs lent ≡ Some e
+unfolding refusal-of first-of
+refused-first xs lent e a = rw a
+
+pub refused-frames : (xs : List ℕ) (lent : ℕ) (z : Sizes) (e : Refusal) → disc-refusal xs ≡ None → disc-sizes xs ≡ z → frame-refusal (frames-for z) lent ≡ Some e → refusal-of xs lent ≡ Some e
+unfolding refusal-of first-of
+refused-frames xs lent z e a b c = rw (a, b, c)
+
+pub passed-frames : (xs : List ℕ) (lent : ℕ) (z : Sizes) → disc-refusal xs ≡ None → disc-sizes xs ≡ z → frame-refusal (frames-for z) lent ≡ None → refusal-of xs lent ≡ None
+unfolding refusal-of first-of
+passed-frames xs lent z a b c = rw (a, b, c)
+
+pub never-few : (z : Sizes) (lent : ℕ) (e : Refusal) → frame-refusal (frames-for z) lent ≡ Some e → Enough z lent → ⊥
+never-few z lent e r h =
+    let o : _≡_ {A = ℕ} 0 1 = cc (cond-false (ltb (lent / 4096) (frames-for z)) (Some (Frames (frames-for z))) None (le-ltb (lent / 4096) (frames-for z) h)) in omega arith

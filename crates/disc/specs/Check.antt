@@ -38,7 +38,7 @@ refused-at (Event a) = a
 abbrev pub named : List ℕ → Bool
 named b = eqb (getD b 0 0) 84 && (eqb (getD b 1 0) 85 && (eqb (getD b 2 0) 82 && eqb (getD b 3 0) 78))
 
-abbrev pub sizes-in : List ℕ → Sizes
+unfoldable pub sizes-in : List ℕ → Sizes
 sizes-in b =
     record {
       processes = word-at b 4;
@@ -52,6 +52,10 @@ sizes-in b =
       screens = word-at b 36;
       turn = word-at b 40;
     }
+
+-- the sizes of a disc
+abbrev pub disc-sizes : List ℕ → Sizes
+disc-sizes xs = sizes-in (at (blocks xs) 0)
 
 abbrev pub between : ℕ → ℕ → ℕ → Bool
 between least x most = leb least x && leb x most
@@ -122,14 +126,17 @@ first-of [] = None
 first-of (None ∷ rs) = first-of rs
 first-of (Some r ∷ rs) = Some r
 
-unfoldable pub refusals : ℕ → Disc → Sizes → ℕ → List (Option Refusal)
-refusals n d z lent =
-    length-refusal n ∷ name-refusal (at d 0) ∷ size-refusal (first-out z) ∷ block-refusal (room (plan-of z)) (first-wrong (plan-of z) d) ∷ frame-refusal (frames-for z) lent
-    ∷ []
+-- what is refused of a row of bytes as a disc
+unfoldable pub disc-refusal : List ℕ → Option Refusal
+disc-refusal xs =
+    first-of
+    (length-refusal (length xs) ∷ name-refusal (at (blocks xs) 0) ∷ size-refusal (first-out (disc-sizes xs))
+    ∷ block-refusal (room (plan-of (disc-sizes xs))) (first-wrong (plan-of (disc-sizes xs)) (blocks xs))
+    ∷ [])
 
 -- what is refused of a row of bytes as a disc, with so many bytes lent for frames
 unfoldable pub refusal-of : List ℕ → ℕ → Option Refusal
-refusal-of xs lent = first-of (refusals (length xs) (blocks xs) (sizes-in (at (blocks xs) 0)) lent)
+refusal-of xs lent = first-of (disc-refusal xs ∷ frame-refusal (frames-for (disc-sizes xs)) lent ∷ [])
 
 -- A DISC THAT IS TAKEN, as a row of blocks
 pub record Taken (z : Sizes) (d : Disc) : Type 0 where
@@ -147,6 +154,10 @@ pub record Taken (z : Sizes) (d : Disc) : Type 0 where
 pub record Holds (z : Sizes) (d : Disc) (fs : List (List ℕ)) : Type 0 where
   pub taken : Taken z d
   pub files : files-on (plan-of z) d ≡ fs
+
+-- a row of bytes that is a disc of these sizes, with nothing behind its blocks
+abbrev pub Taken-bytes : Sizes → List ℕ → Type 0
+Taken-bytes z xs = Taken z (blocks xs) × (length xs % 512 ≡ 0)
 
 -- frames enough are lent
 abbrev pub Enough : Sizes → ℕ → Type 0

@@ -11,7 +11,7 @@ ghost use Rattle.std.specs.declared.result.Result.the-variants.{Ok};
 ghost use Rattle.turns.specs.Ranges.{In-range};
 ghost use Rattle.disc.specs.Blocks.{at, blocks};
 ghost use Rattle.disc.specs.Layout.{plan-of, room, Fit};
-ghost use Rattle.disc.specs.Check.{number, refused-at, between, pages, named, sizes-in, first-out, too-long, first-wrong, frames-for, length-refusal, name-refusal, size-refusal, block-refusal, frame-refusal, refusal-of, Taken, Enough};
+ghost use Rattle.disc.specs.Check.{number, refused-at, between, pages, named, disc-sizes, first-out, too-long, first-wrong, frames-for, length-refusal, name-refusal, size-refusal, block-refusal, frame-refusal, disc-refusal, refusal-of, Taken-bytes, Enough};
 use crate::layout::Plan;
 use crate::layout::current_of;
 use turns::vocabulary::Sizes;
@@ -95,7 +95,7 @@ fn check_name(disc: &[u8]) -> Result<(), Refusal>
 // The sizes in block 0, in range or not.
 fn sizes_of(disc: &[u8]) -> Sizes
     requires within { ⌜ 512 ≤ length (now disc) ⌝ }
-    ensures { λ r. ⌜ r ≡ sizes-in (at (blocks (now (disc .entry))) 0) ⌝ }
+    ensures { λ r. ⌜ r ≡ disc-sizes (now (disc .entry)) ⌝ }
 {
     Sizes {
         processes: bytes::word(disc, 4),
@@ -201,4 +201,29 @@ fn check_frames(z: Sizes, lent: usize) -> Result<(), Refusal>
         return Err(Refusal::Frames(needed));
     }
     Ok(())
+}
+
+// The sizes of a disc that is taken; else the first of refusals 1 to 4.
+pub fn check_disc(disc: &[u8]) -> Result<Sizes, Refusal>
+    ensures value { λ r. ⌜ Cases r (λ _. disc-refusal (now (disc .entry)) ≡ None) (λ e. disc-refusal (now (disc .entry)) ≡ Some e) ⌝ }
+    ensures taken { λ r. ⌜ made r (λ z. Taken-bytes z (now (disc .entry))) ⌝ }
+    ensures only { λ r. ⌜ ((z : Sizes) → Taken-bytes z (now (disc .entry)) → r ≡ Ok z) ⌝ }
+{
+    check_length(disc)?;
+    check_name(disc)?;
+    let sizes = sizes_of(disc);
+    check_sizes(sizes)?;
+    check_blocks(disc, Plan::new(sizes))?;
+    Ok(sizes)
+}
+
+// The sizes of a disc that is taken, if so many bytes are enough for its frames; else the first of refusals 1 to 5.
+pub fn check(disc: &[u8], lent: usize) -> Result<Sizes, Refusal>
+    ensures value { λ r. ⌜ Cases r (λ _. refusal-of (now (disc .entry)) lent ≡ None) (λ e. refusal-of (now (disc .entry)) lent ≡ Some e) ⌝ }
+    ensures taken { λ r. ⌜ made r (λ z. Taken-bytes z (now (disc .entry)) × Enough z lent) ⌝ }
+    ensures only { λ r. ⌜ ((z : Sizes) → Taken-bytes z (now (disc .entry)) → Enough z lent → r ≡ Ok z) ⌝ }
+{
+    let sizes = check_disc(disc)?;
+    check_frames(sizes, lent)?;
+    Ok(sizes)
 }

@@ -1,7 +1,9 @@
+use Rattle.disc.specs.Check.{sizes-in}
 use Rattle.disc.proofs.Verdicts.{sizes-first}
 use Rattle.disc.proofs.check.sizes_of.Needs as need
 
 pub returns : need.returns
+unfolding sizes-in
 returns c =
     rw (
       sizes-first (c .args .disc .now) (c .pre .within),
