@@ -2,3 +2,4 @@ pub mod Cuts
 pub mod Rows
 pub mod Places
 pub mod Verdicts
+pub mod Held
