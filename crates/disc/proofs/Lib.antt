@@ -3,3 +3,4 @@ pub mod Rows
 pub mod Places
 pub mod Verdicts
 pub mod Held
+pub mod Images

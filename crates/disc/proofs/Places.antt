@@ -32,7 +32,7 @@ fits z r =
     let e : (z .file + 511) / 512 ≤ 512 = omega arith in
     let m : z .files * ((z .file + 511) / 512) ≤ 64 * 512 = mul-le-mul (r .files .1) e in
     let n = r .files .1 in
-    record { lengths = n; bits = omega arith; deep = omega arith; small = omega arith; few = omega arith }
+    record { lengths = n; bits = omega arith; deep = omega arith; small = omega arith; few = omega arith; short = s }
 
 -- a byte of a block, and a word
 pub byte-of : (xs : List ℕ) (q r : ℕ) → r < 512 → q < length xs / 512 → getD (at (blocks xs) q) r 0 ≡ getD xs (512 * q + r) 0

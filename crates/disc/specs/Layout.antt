@@ -82,3 +82,4 @@ pub record Fit (p : Plan) : Type 0 where
   pub deep : p .size ≤ 512 * p .each
   pub small : p .files * p .each ≤ 32768
   pub few : p .head ≤ 9
+  pub short : p .size ≤ 262144
