@@ -6,11 +6,11 @@ use native.Mathlib.Omega.{arith}
 use lib.ListN.{length, getD, take, drop}
 use Rattle.std.specs.Iters.{counting}
 use Rattle.std.proofs.shelf.Lists.{ext-getD, length-take, length-drop, getD-take, getD-drop}
-use Rattle.std.proofs.shelf.Counted.{getD-map-counting}
+use Rattle.std.proofs.shelf.Counted.{getD-map-counting, length-map-counting, fill-by-all}
 use Rattle.turns.specs.declared.vocabulary.Sizes.{Sizes}
 use Rattle.disc.specs.Blocks.{Disc, blocks}
 use Rattle.disc.specs.Layout.{Header, plan-of, room, current-header, length-in, file-in, files-in, files-on, Fit, Sound}
-use Rattle.disc.specs.Check.{Taken}
+use Rattle.disc.specs.Check.{Taken, Holds}
 use Rattle.disc.specs.declared.layout.Plan.{Plan}
 use Rattle.disc.proofs.Cuts.{length-blocks}
 use Rattle.disc.proofs.Places.{fits, file-length}
@@ -66,3 +66,31 @@ opened z xs f hs p e t l =
       small = omega arith;
       same = ap (λ (x : Header). file-in (plan-of z) x (blocks xs) f) h ∙ sym (file-of-files (plan-of z) (blocks xs) f l);
     })
+
+-- a file that is as long as some bytes, and has the same in each of its blocks
+pub same-file : (file bytes : List ℕ) (n : ℕ) → length file ≡ length bytes → length bytes ≤ n → ((k : ℕ) → k < n → k < length bytes → getD file k 0 ≡ getD bytes k 0) → file ≡ bytes
+same-file file bytes n e l h = ext-getD 0 file bytes e (λ k u. h k (omega arith) (omega arith))
+
+-- all files of a disc
+pub holds-if : (z : Sizes) (xs : List ℕ) (p : Plan) (hs : List ℕ) (fs : List (List ℕ)) → p ≡ plan-of z → Taken z (blocks xs) → blocks hs ≡ current-header p (blocks xs) → length fs ≡ z .files →
+    ((f : ℕ) → f < p .files → file-in p (blocks hs) (blocks xs) f ≡ getD fs f []) → Holds z (blocks xs) fs
+unfolding files-on files-in
+holds-if z xs p hs fs e t =
+    subst
+    (λ (q : Plan). blocks hs ≡ current-header q (blocks xs) → length fs ≡ z .files → ((f : ℕ) → f < q .files → file-in q (blocks hs) (blocks xs) f ≡ getD fs f []) → Holds z (blocks xs) fs) (sym e)
+    (λ h n s.
+    record {
+      taken = t;
+      files = sym
+          (fill-by-all (file-in (plan-of z) (current-header (plan-of z) (blocks xs)) (blocks xs)) fs (z .files) [] n
+          (λ f l. sym (s f l) ∙ ap (λ (x : Header). file-in (plan-of z) x (blocks xs) f) h));
+    })
+
+pub if-holds : (z : Sizes) (xs : List ℕ) (p : Plan) (hs : List ℕ) (fs : List (List ℕ)) → p ≡ plan-of z → Holds z (blocks xs) fs → blocks hs ≡ current-header p (blocks xs) → (f : ℕ) → f < p .files →
+    file-in p (blocks hs) (blocks xs) f ≡ getD fs f []
+if-holds z xs p hs fs e k h f l =
+    ap (λ (x : Header). file-in p x (blocks xs) f) h ∙ sym (file-of-files p (blocks xs) f l) ∙ ap (λ (q : Plan). getD (files-on q (blocks xs)) f []) e ∙ ap (λ (v : List (List ℕ)). getD v f []) (k .files)
+
+pub count-if : (z : Sizes) (d : Disc) (fs : List (List ℕ)) → Holds z d fs → length fs ≡ z .files
+unfolding files-on files-in
+count-if z d fs k = ap length (sym (k .files)) ∙ length-map-counting (file-in (plan-of z) (current-header (plan-of z) d) d) 0 (z .files)

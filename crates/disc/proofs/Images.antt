@@ -4,7 +4,7 @@ use mathlib.Core.Logic.{inl, inr, ⊎-elim, _⊎_, _≢_}
 use mathlib.Core.Bool.{true}
 use mathlib.Core.List.{List, [], _∷_, _++_, map}
 use Prim.Native.Nat.{ℕ, zero, suc, _+_, _-_, _*_, _/_, _%_, _^_, _≤_, _<_}
-use native.Mathlib.Nat.{mul-le-mul-right, zero-div}
+use native.Mathlib.Nat.{zero-div}
 use native.Mathlib.Omega.{arith}
 use borrow.Rule.Slice.PartMut.{putMid}
 use lib.ListN.{length, getD, set, take, drop, replicate}
@@ -27,13 +27,9 @@ use Rattle.disc.specs.Format.{image-length, Short, Misfits, Planned, Laid}
 use Rattle.disc.specs.declared.format.Misfit.{Misfit}
 use Rattle.disc.specs.declared.format.Misfit.the-variants.{Size, Count, File, Image}
 use Rattle.disc.proofs.Cuts.{length-blocks, blocks-whole}
-use Rattle.disc.proofs.Places.{fits, byte-of, word-of, current-byte, file-length, file-byte}
+use Rattle.disc.proofs.Places.{row-in, fits, byte-of, word-of, current-byte, file-length, file-byte}
 use Rattle.disc.proofs.Verdicts.{named-first, sizes-first, block-bytes, if-range}
 use Rattle.disc.specs.declared.layout.Plan.{Plan}
-
--- the blocks of file f end where those of the next begin
-pub row-in : (f n e : ℕ) → f < n → f * e + e ≤ n * e
-row-in f n e h = let m : (f + 1) * e ≤ n * e = mul-le-mul-right e (omega arith) in omega arith
 
 -- a byte of a part that was overwritten, and any other
 pub putMid-in : (a n : ℕ) (xs ys : List ℕ) (k : ℕ) → a ≤ length xs → k < length ys → getD (putMid a n xs ys) (a + k) 0 ≡ getD ys k 0

@@ -3,7 +3,7 @@ use mathlib.Core.Path.{_≡_, refl, sym, ap, subst, _∙_}
 use mathlib.Core.Logic.{inl, inr, ⊎-elim, _≢_, _⊎_}
 use mathlib.Core.List.{List, [], _∷_, _++_, map}
 use Prim.Native.Nat.{ℕ, zero, suc, _+_, _-_, _*_, _/_, _%_, _^_, _≤_, _<_}
-use native.Mathlib.Nat.{mul-le-mul}
+use native.Mathlib.Nat.{mul-le-mul, mul-le-mul-right}
 use native.Mathlib.Omega.{arith}
 use lib.ListN.{length, getD, set, take, drop}
 use Rattle.std.specs.Iters.{counting}
@@ -24,6 +24,10 @@ pub below-two : (P : ℕ → Type 0) → P 0 → P 1 → (c : ℕ) → c < 2 →
 below-two P a b zero h = a
 below-two P a b (suc zero) h = b
 below-two P a b (suc (suc c)) h = absurd (omega arith)
+
+-- the blocks of file f end where those of the next begin
+pub row-in : (f n e : ℕ) → f < n → f * e + e ≤ n * e
+row-in f n e h = let m : (f + 1) * e ≤ n * e = mul-le-mul-right e (omega arith) in omega arith
 
 -- the plan of sizes in range fits
 pub fits : (z : Sizes) → In-range z → Fit (plan-of z)

@@ -18,6 +18,7 @@ ghost use Rattle.disc.specs.Check.{named, sizes-in, first-out, Holds};
 ghost use Rattle.disc.specs.Format.{image-length, Short, Counted, Misfits, Planned, Laid};
 use crate::check::first_out;
 use crate::layout::Plan;
+use crate::read::content;
 use turns::vocabulary::Sizes;
 
 // Why a disc cannot be made.
@@ -41,14 +42,6 @@ pub fn image_size(sizes: Sizes) -> Result<usize, Misfit>
         Some(i) => Err(Misfit::Size(i)),
         None => Ok(512 * Plan::new(sizes).room()),
     }
-}
-
-// What file f is to hold.
-fn content(files: &[Vec<u8>], f: usize) -> &[u8]
-    requires within { ⌜ f < length (now files) ⌝ }
-    ensures { λ r. ⌜ now r ≡ getD (map vec-items (now (files .entry))) f [] ⌝ }
-{
-    files[f].as_slice()
 }
 
 // The first file that is longer than a file may be, or how many files there are.

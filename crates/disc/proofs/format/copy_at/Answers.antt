@@ -1,6 +1,6 @@
 use mathlib.Core.Path.{refl}
 use native.Mathlib.Omega.{arith}
-use Rattle.disc.proofs.Images.{row-in}
+use Rattle.disc.proofs.Places.{row-in}
 use Rattle.disc.proofs.format.copy_at.Needs as need
 
 pub mul-result-3 : need.mul-result-3

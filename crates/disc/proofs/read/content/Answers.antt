@@ -2,7 +2,7 @@ use mathlib.Core.Path.{sym, ap, _∙_}
 use mathlib.Core.List.{[]}
 use Rattle.std.specs.Of.Vec.{vec-items}
 use Rattle.std.proofs.shelf.Lists.{getD-map}
-use Rattle.disc.proofs.format.content.Needs as need
+use Rattle.disc.proofs.read.content.Needs as need
 
 pub returns : need.returns
 returns c =
