@@ -140,6 +140,9 @@ list-by (Err w) = Err (record { line = w .0; reason = w .1 })
 unfoldable pub list-of : List ℕ → Result DiscList Fault
 list-of text = list-by (all-lines text (list-step text) unsaid)
 
--- paths are parts of a text that has n bytes
+-- a part of a text that has n bytes; paths are such parts
+abbrev pub Within : ℕ → Span → Type 0
+Within n s = (s .from ≤ s .to) × (s .to ≤ n)
+
 abbrev pub Paths-within : ℕ → List (Option Put) → Type 0
-Paths-within n puts = (f : ℕ) (p : Put) → getD puts f None ≡ Some p → (p .path .from ≤ p .path .to) × (p .path .to ≤ n)
+Paths-within n puts = (f : ℕ) (p : Put) → getD puts f None ≡ Some p → Within n (p .path)
