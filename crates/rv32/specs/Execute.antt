@@ -1,5 +1,6 @@
 -- What each instruction does to the registers, and what it leaves to be done. Assumes nothing: these are definitions.
 use Prim.Native.Nat.{ℕ, _+_, _*_, _/_, _%_, _^_, _<_}
+use mathlib.Core.Path.{_≡_}
 use mathlib.Core.Bool.{cond}
 use lib.ListN.{getD, set, replicate}
 use lib.Dec.{eqb}
@@ -119,3 +120,11 @@ Sound-effect (E.Load width rd a) = rd < 32
 Sound-effect (E.Store width a v) = Unit {0}
 Sound-effect (E.Call call) = Unit {0}
 Sound-effect E.Wrong = Unit {0}
+
+-- a process that calls waits with the registers that it had
+abbrev pub Waits : Effect → Cpu → Cpu → Type 0
+Waits E.Quiet c d = Unit {0}
+Waits (E.Load width rd a) c d = Unit {0}
+Waits (E.Store width a v) c d = Unit {0}
+Waits (E.Call call) c d = d ≡ c
+Waits E.Wrong c d = Unit {0}

@@ -2,3 +2,5 @@ pub mod Fields
 pub mod Decode
 pub mod Compute
 pub mod Execute
+pub mod Act
+pub mod Steps

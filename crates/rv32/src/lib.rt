@@ -1,11 +1,13 @@
 // The core: RV32I of the RISC-V unprivileged specification, without control and status registers.
 mod compute;
 mod cpu;
-mod decode;
-mod execute;
+mod decoding;
+mod executing;
 mod fields;
 mod instruction;
+mod memory;
 
 pub use cpu::{Action, Cpu, Effect};
-pub use execute::call_of;
+pub use executing::call_of;
 pub use instruction::{Condition, Instruction, LoadWidth, Operation, StoreWidth};
+pub use memory::{act, load, steps_stand, store};

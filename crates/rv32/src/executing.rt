@@ -1,11 +1,11 @@
 // Instructions carried out on the registers of a process.
 ghost use mathlib.Core.Path.{_≡_};
 ghost use Prim.Native.Nat.{_%_, _<_};
-ghost use Rattle.rv32.specs.Execute.{reg-of, with-reg, stepped, finished, jumped, call-of, call-in, executed, performed, fresh, answered, Sound, Sound-effect};
+ghost use Rattle.rv32.specs.Execute.{reg-of, with-reg, stepped, finished, jumped, call-of, call-in, executed, performed, fresh, answered, Sound, Sound-effect, Waits};
 
 use crate::compute::*;
 use crate::cpu::*;
-use crate::decode::decoded;
+use crate::decoding::decoded;
 use crate::instruction::*;
 use turns::vocabulary::Call;
 
@@ -62,6 +62,7 @@ impl Cpu {
         ensures value { λ r. ⌜ r ≡ performed word (now (self .entry)) .0 ⌝ }
         ensures after { λ _. ⌜ now (self .exit) ≡ performed word (now (self .entry)) .1 ⌝ }
         ensures sound { λ r. ⌜ Sound-effect r ⌝ }
+        ensures waits { λ r. ⌜ Waits r (now (self .entry)) (now (self .exit)) ⌝ }
         ensures aligned { λ _. ⌜ (now (self .entry) .pc % 4 ≡ 0 → now (self .exit) .pc % 4 ≡ 0) ⌝ }
     {
         match decoded(word) {
@@ -97,6 +98,7 @@ impl Cpu {
         ensures value { λ r. ⌜ r ≡ jumped (now (self .entry)) rd target .0 ⌝ }
         ensures after { λ _. ⌜ now (self .exit) ≡ jumped (now (self .entry)) rd target .1 ⌝ }
         ensures sound { λ r. ⌜ Sound-effect r ⌝ }
+        ensures waits { λ r. ⌜ Waits r (now (self .entry)) (now (self .exit)) ⌝ }
         ensures aligned { λ _. ⌜ (now (self .entry) .pc % 4 ≡ 0 → now (self .exit) .pc % 4 ≡ 0) ⌝ }
     {
         if target % 4 != 0 {
@@ -120,6 +122,7 @@ impl Cpu {
         ensures value { λ r. ⌜ r ≡ executed instruction (now (self .entry)) .0 ⌝ }
         ensures after { λ _. ⌜ now (self .exit) ≡ executed instruction (now (self .entry)) .1 ⌝ }
         ensures sound { λ r. ⌜ Sound-effect r ⌝ }
+        ensures waits { λ r. ⌜ Waits r (now (self .entry)) (now (self .exit)) ⌝ }
         ensures aligned { λ _. ⌜ (now (self .entry) .pc % 4 ≡ 0 → now (self .exit) .pc % 4 ≡ 0) ⌝ }
     {
         match instruction {
