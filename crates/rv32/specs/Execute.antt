@@ -99,7 +99,7 @@ fresh n = record { regs = set (replicate 32 0) 2 n; pc = 0 }
 abbrev pub answered : Cpu → ℕ → Cpu
 answered c v = finished c 10 v
 
--- the registers that an instruction names are registers
+-- the registers that an instruction names are registers, and the fields of FENCE have four bits
 abbrev pub Sound : Instruction → Type 0
 Sound (Lui rd imm) = rd < 32
 Sound (Auipc rd imm) = rd < 32
@@ -110,7 +110,7 @@ Sound (Load width rd rs1 z) = (rd < 32) × (rs1 < 32)
 Sound (Store width rs1 rs2 z) = (rs1 < 32) × (rs2 < 32)
 Sound (OpImm o rd rs1 z) = (rd < 32) × (rs1 < 32)
 Sound (Op o rd rs1 rs2) = (rd < 32) × (rs1 < 32) × (rs2 < 32)
-Sound (Fence fm pred succ rd rs1) = Unit {0}
+Sound (Fence fm pred succ rd rs1) = (fm < 16) × (pred < 16) × (succ < 16) × (rd < 32) × (rs1 < 32)
 Sound Ecall = Unit {0}
 
 -- the register that a load is for is one

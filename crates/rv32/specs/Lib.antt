@@ -1,6 +1,7 @@
 pub mod Fields
 pub mod Decode
 pub mod Compute
+pub mod Encode
 pub mod Execute
 pub mod Act
 pub mod Steps

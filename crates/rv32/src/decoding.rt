@@ -84,7 +84,7 @@ fn op_imm(word: u32) -> Option<Instruction>
 }
 
 // The match on the opcode.
-pub(crate) fn decoded(word: u32) -> Option<Instruction>
+pub(crate) fn by_opcode(word: u32) -> Option<Instruction>
     ensures value { λ r. ⌜ r ≡ decode-of word ⌝ }
     ensures sound { λ r. ⌜ BySome r (Unit {0}) Sound ⌝ }
 {

@@ -5,7 +5,7 @@ ghost use Rattle.rv32.specs.Execute.{reg-of, with-reg, stepped, finished, jump
 
 use crate::compute::*;
 use crate::cpu::*;
-use crate::decoding::decoded;
+use crate::decoding::by_opcode;
 use crate::instruction::*;
 use turns::vocabulary::Call;
 
@@ -65,7 +65,7 @@ impl Cpu {
         ensures waits { λ r. ⌜ Waits r (now (self .entry)) (now (self .exit)) ⌝ }
         ensures aligned { λ _. ⌜ (now (self .entry) .pc % 4 ≡ 0 → now (self .exit) .pc % 4 ≡ 0) ⌝ }
     {
-        match decoded(word) {
+        match by_opcode(word) {
             Some(instruction) => self.obey(instruction),
             None => Effect::Wrong,
         }

@@ -2,6 +2,7 @@
 mod compute;
 mod cpu;
 mod decoding;
+mod encoding;
 mod executing;
 mod fields;
 mod instruction;
