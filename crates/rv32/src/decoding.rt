@@ -1,7 +1,9 @@
 // From a word to the instruction that it is.
 ghost use mathlib.Core.Path.{_≡_};
 ghost use Rattle.std.specs.Options.{Cases as BySome};
+ghost use Rattle.std.specs.declared.option.Option.the-variants.{Some};
 ghost use Rattle.rv32.specs.Decode.{operation-of, condition-of, load-width-of, store-width-of, op-imm-of, decode-of};
+ghost use Rattle.rv32.specs.Encode.{encode-of};
 ghost use Rattle.rv32.specs.Execute.{Sound};
 
 use crate::fields::*;
@@ -118,4 +120,12 @@ pub(crate) fn by_opcode(word: u32) -> Option<Instruction>
         0x73 if word == 0x73 => Some(Instruction::Ecall),
         _ => None,
     }
+}
+
+// The instruction that a word is, if it is one.
+pub fn decode(word: u32) -> Option<Instruction>
+    ensures value { λ r. ⌜ r ≡ decode-of word ⌝ }
+    ensures back { λ r. ⌜ BySome r (Unit {0}) (λ i. encode-of i ≡ Some word) ⌝ }
+{
+    by_opcode(word)
 }

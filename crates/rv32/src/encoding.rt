@@ -207,3 +207,14 @@ fn word_of(instruction: Instruction) -> u32
         Instruction::Ecall => 0x73,
     }
 }
+
+// The word of an instruction, unless it is not well-formed.
+pub fn encode(instruction: Instruction) -> Option<u32>
+    ensures value { λ r. ⌜ r ≡ encode-of instruction ⌝ }
+    ensures inverse { λ r. ⌜ Inverse r instruction ⌝ }
+{
+    if !is_formed(instruction) {
+        return None;
+    }
+    Some(word_of(instruction))
+}

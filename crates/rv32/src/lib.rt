@@ -9,6 +9,8 @@ mod instruction;
 mod memory;
 
 pub use cpu::{Action, Cpu, Effect};
+pub use decoding::decode;
+pub use encoding::encode;
 pub use executing::call_of;
 pub use instruction::{Condition, Instruction, LoadWidth, Operation, StoreWidth};
 pub use memory::{act, load, steps_stand, store};
