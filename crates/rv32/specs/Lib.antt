@@ -5,3 +5,4 @@ pub mod Encode
 pub mod Execute
 pub mod Act
 pub mod Steps
+pub mod Listing

@@ -6,6 +6,7 @@ mod encoding;
 mod executing;
 mod fields;
 mod instruction;
+mod listing;
 mod memory;
 
 pub use cpu::{Action, Cpu, Effect};
