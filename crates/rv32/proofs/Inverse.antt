@@ -80,9 +80,16 @@ record Has (f7 rs2 rs1 f3 rd op w : ℕ) : Type 0 where
 
 has : (f7 rs2 rs1 f3 rd op : ℕ) → f7 < 128 → rs2 < 32 → rs1 < 32 → f3 < 8 → rd < 32 → op < 128 → Has f7 rs2 rs1 f3 rd op (packed f7 rs2 rs1 f3 rd op)
 has a b c d e f p q r s t u = record {
-    opcode = packed-opcode a b c d e f p q r s t u; dest = packed-rd a b c d e f p q r s t u; funct3 = packed-funct3 a b c d e f p q r s t u;
-    first = packed-rs1 a b c d e f p q r s t u; second = packed-rs2 a b c d e f p q r s t u; funct7 = packed-funct7 a b c d e f p q r s t u;
-    i-bits = packed-imm-i a b c d e f p q r s t u; s-bits = packed-bits-s a b c d e f p q r s t u; b-bits = packed-bits-b a b c d e f p q r s t u }
+  opcode = packed-opcode a b c d e f p q r s t u;
+  dest = packed-rd a b c d e f p q r s t u;
+  funct3 = packed-funct3 a b c d e f p q r s t u;
+  first = packed-rs1 a b c d e f p q r s t u;
+  second = packed-rs2 a b c d e f p q r s t u;
+  funct7 = packed-funct7 a b c d e f p q r s t u;
+  i-bits = packed-imm-i a b c d e f p q r s t u;
+  s-bits = packed-bits-s a b c d e f p q r s t u;
+  b-bits = packed-bits-b a b c d e f p q r s t u;
+}
 
 module _ (a b c d rd op : ℕ) (ha : a < 2) (hb : b < 1024) (hc : c < 2) (hd : d < 256) (hr : rd < 32) (ho : op < 128) where
   abbrev word-j : ℕ
@@ -90,7 +97,7 @@ module _ (a b c d rd op : ℕ) (ha : a < 2) (hb : b < 1024) (hc : c < 2) (hd : d
 
   packed-bits-j : bits-j word-j ≡ a * 1048576 + d * 4096 + c * 2048 + b * 2
   packed-bits-j = let p : word-j / 2147483648 ≡ a = omega arith in let q : word-j / 4096 % 256 ≡ d = omega arith in
-    let r : word-j / 1048576 % 2 ≡ c = omega arith in let s : word-j / 2097152 % 1024 ≡ b = omega arith in rw (p, q, r, s)
+      let r : word-j / 1048576 % 2 ≡ c = omega arith in let s : word-j / 2097152 % 1024 ≡ b = omega arith in rw (p, q, r, s)
 
 regroup-j : (v : ℕ) → v % 2 ≡ 0 → v % 2097152 / 1048576 * 1048576 + v % 1048576 / 4096 * 4096 + v % 4096 / 2048 * 2048 + v % 2048 / 2 * 2 ≡ v % 2097152
 regroup-j v h = omega arith
@@ -279,7 +286,7 @@ decodes-back (Auipc rd imm) f = dec-auipc (encoded (Auipc rd imm)) rd imm (omega
 decodes-back (Jal rd z) f =
     let v = word-of z in
     let e : bits-j (encoded (Jal rd z)) ≡ low z 2097152 =
-      packed-bits-j (v % 2097152 / 1048576) (v % 2048 / 2) (v % 4096 / 2048) (v % 1048576 / 4096) rd 0x6f (omega arith) (omega arith) (omega arith) (omega arith) (f .0) (omega arith) ∙ regroup-j v (f .2) in
+    packed-bits-j (v % 2097152 / 1048576) (v % 2048 / 2) (v % 4096 / 2048) (v % 1048576 / 4096) rd 0x6f (omega arith) (omega arith) (omega arith) (omega arith) (f .0) (omega arith) ∙ regroup-j v (f .2) in
     dec-jal (encoded (Jal rd z)) rd z (omega arith) (omega arith) (back-j z (bits-j (encoded (Jal rd z))) (f .1) e)
 decodes-back (Jalr rd rs1 z) f =
     let h = has-i z rs1 0 rd 0x67 (f .1) (omega arith) (f .0) (omega arith) in
@@ -423,45 +430,45 @@ encodes-back w h =
     cond-both (eqb (opcode-of w) 0x37) _ _ P (λ q. let e = eqb-true (opcode-of w) 0x37 q in ((omega arith, omega arith), omega arith)) λ _.
     cond-both (eqb (opcode-of w) 0x17) _ _ P (λ q. let e = eqb-true (opcode-of w) 0x17 q in ((omega arith, omega arith), omega arith)) λ _.
     cond-both (eqb (opcode-of w) 0x6f) _ _ P
-      (λ q. let g = j-word w (word-of (imm-j w)) 0x6f h (fj .0) (eqb-true (opcode-of w) 0x6f q) in ((hd, fj .1, g .1), (g .0))) λ _.
+    (λ q. let g = j-word w (word-of (imm-j w)) 0x6f h (fj .0) (eqb-true (opcode-of w) 0x6f q) in ((hd, fj .1, g .1), (g .0))) λ _.
     cond-both (eqb (opcode-of w) 0x67) _ _ P
-      (λ q. cond-both (eqb (funct3-of w) 0) _ _ P
-        (λ r. ((hd, h1, fi .1), (i-word w (word-of (imm-i w)) 0 0x67 (fi .0) (sym (eqb-true (funct3-of w) 0 r)) (eqb-true (opcode-of w) 0x67 q)))) (λ _. tt)) λ _.
+    (λ q. cond-both (eqb (funct3-of w) 0) _ _ P
+    (λ r. ((hd, h1, fi .1), (i-word w (word-of (imm-i w)) 0 0x67 (fi .0) (sym (eqb-true (funct3-of w) 0 r)) (eqb-true (opcode-of w) 0x67 q)))) (λ _. tt)) λ _.
     cond-both (eqb (opcode-of w) 0x63) _ _ P
-      (λ q. cases-mapped (λ t. Branch t (rs1-of w) (rs2-of w) (imm-b w)) (λ t. condition-code t ≡ funct3-of w) R (condition-of (funct3-of w)) (condition-forth (funct3-of w))
-        λ t g. let k = b-word w (word-of (imm-b w)) (condition-code t) 0x63 h (fb .0) g (eqb-true (opcode-of w) 0x63 q) in ((h1, h2, fb .1, k .1), (k .0))) λ _.
+    (λ q. cases-mapped (λ t. Branch t (rs1-of w) (rs2-of w) (imm-b w)) (λ t. condition-code t ≡ funct3-of w) R (condition-of (funct3-of w)) (condition-forth (funct3-of w))
+    λ t g. let k = b-word w (word-of (imm-b w)) (condition-code t) 0x63 h (fb .0) g (eqb-true (opcode-of w) 0x63 q) in ((h1, h2, fb .1, k .1), (k .0))) λ _.
     cond-both (eqb (opcode-of w) 0x03) _ _ P
-      (λ q. cases-mapped (λ t. Load t (rd-of w) (rs1-of w) (imm-i w)) (λ t. load-code t ≡ funct3-of w) R (load-width-of (funct3-of w)) (load-forth (funct3-of w))
-        λ t g. ((hd, h1, fi .1), (i-word w (word-of (imm-i w)) (load-code t) 0x03 (fi .0) g (eqb-true (opcode-of w) 0x03 q)))) λ _.
+    (λ q. cases-mapped (λ t. Load t (rd-of w) (rs1-of w) (imm-i w)) (λ t. load-code t ≡ funct3-of w) R (load-width-of (funct3-of w)) (load-forth (funct3-of w))
+    λ t g. ((hd, h1, fi .1), (i-word w (word-of (imm-i w)) (load-code t) 0x03 (fi .0) g (eqb-true (opcode-of w) 0x03 q)))) λ _.
     cond-both (eqb (opcode-of w) 0x23) _ _ P
-      (λ q. cases-mapped (λ t. Store t (rs1-of w) (rs2-of w) (imm-s w)) (λ t. store-code t ≡ funct3-of w) R (store-width-of (funct3-of w)) (store-forth (funct3-of w))
-        λ t g. ((h1, h2, fs .1), (s-word w (word-of (imm-s w)) (store-code t) 0x23 (fs .0) g (eqb-true (opcode-of w) 0x23 q)))) λ _.
+    (λ q. cases-mapped (λ t. Store t (rs1-of w) (rs2-of w) (imm-s w)) (λ t. store-code t ≡ funct3-of w) R (store-width-of (funct3-of w)) (store-forth (funct3-of w))
+    λ t g. ((h1, h2, fs .1), (s-word w (word-of (imm-s w)) (store-code t) 0x23 (fs .0) g (eqb-true (opcode-of w) 0x23 q)))) λ _.
     cond-both (eqb (opcode-of w) 0x13) _ _ P
-      (λ q. let e = eqb-true (opcode-of w) 0x13 q in
-        let i : (f3 : ℕ) → funct3-of w ≡ f3 → packed-i (imm-i w) (rs1-of w) f3 (rd-of w) 0x13 ≡ w = λ f3 g. i-word w (word-of (imm-i w)) f3 0x13 (fi .0) (sym g) e in
-        let sh : (f7 f3 : ℕ) → funct7-of w ≡ f7 → funct3-of w ≡ f3 → packed f7 (low (pos (rs2-of w)) 32) (rs1-of w) f3 (rd-of w) 0x13 ≡ w =
-          λ f7 f3 g k. word-is w f7 (low (pos (rs2-of w)) 32) (rs1-of w) f3 (rd-of w) 0x13 (sym g) (omega arith) refl (sym k) refl e in
-        let small : (pos 0 ≤ℤ pos (rs2-of w)) × (pos (rs2-of w) <ℤ pos 32) = (omega (arith, ints), omega (arith, ints)) in
-        let Q : Option (Operation × ℤ) → Type 0 = λ o. P (mapped (λ p. OpImm (p .0) (rd-of w) (rs1-of w) (p .1)) o) in
-        by-funct3-all Q (funct3-of w) _ _ _ _ _ _ _ _
-        (λ g. ((hd, h1, fi .1), (i 0 g)))
-        (λ g. cond-both (eqb (funct7-of w) 0) _ _ Q (λ r. ((hd, h1, small), (sh 0 1 (eqb-true (funct7-of w) 0 r) g))) (λ _. tt))
-        (λ g. ((hd, h1, fi .1), (i 2 g)))
-        (λ g. ((hd, h1, fi .1), (i 3 g)))
-        (λ g. ((hd, h1, fi .1), (i 4 g)))
-        (λ g. cond-both (eqb (funct7-of w) 0) _ _ Q (λ r. ((hd, h1, small), (sh 0 5 (eqb-true (funct7-of w) 0 r) g)))
-          (λ _. cond-both (eqb (funct7-of w) 32) _ _ Q (λ r. ((hd, h1, small), (sh 32 5 (eqb-true (funct7-of w) 32 r) g))) (λ _. tt)))
-        (λ g. ((hd, h1, fi .1), (i 6 g)))
-        (λ g. ((hd, h1, fi .1), (i 7 g))) tt) λ _.
+    (λ q. let e = eqb-true (opcode-of w) 0x13 q in
+    let i : (f3 : ℕ) → funct3-of w ≡ f3 → packed-i (imm-i w) (rs1-of w) f3 (rd-of w) 0x13 ≡ w = λ f3 g. i-word w (word-of (imm-i w)) f3 0x13 (fi .0) (sym g) e in
+    let sh : (f7 f3 : ℕ) → funct7-of w ≡ f7 → funct3-of w ≡ f3 → packed f7 (low (pos (rs2-of w)) 32) (rs1-of w) f3 (rd-of w) 0x13 ≡ w =
+    λ f7 f3 g k. word-is w f7 (low (pos (rs2-of w)) 32) (rs1-of w) f3 (rd-of w) 0x13 (sym g) (omega arith) refl (sym k) refl e in
+    let small : (pos 0 ≤ℤ pos (rs2-of w)) × (pos (rs2-of w) <ℤ pos 32) = (omega (arith, ints), omega (arith, ints)) in
+    let Q : Option (Operation × ℤ) → Type 0 = λ o. P (mapped (λ p. OpImm (p .0) (rd-of w) (rs1-of w) (p .1)) o) in
+    by-funct3-all Q (funct3-of w) _ _ _ _ _ _ _ _
+    (λ g. ((hd, h1, fi .1), (i 0 g)))
+    (λ g. cond-both (eqb (funct7-of w) 0) _ _ Q (λ r. ((hd, h1, small), (sh 0 1 (eqb-true (funct7-of w) 0 r) g))) (λ _. tt))
+    (λ g. ((hd, h1, fi .1), (i 2 g)))
+    (λ g. ((hd, h1, fi .1), (i 3 g)))
+    (λ g. ((hd, h1, fi .1), (i 4 g)))
+    (λ g. cond-both (eqb (funct7-of w) 0) _ _ Q (λ r. ((hd, h1, small), (sh 0 5 (eqb-true (funct7-of w) 0 r) g)))
+    (λ _. cond-both (eqb (funct7-of w) 32) _ _ Q (λ r. ((hd, h1, small), (sh 32 5 (eqb-true (funct7-of w) 32 r) g))) (λ _. tt)))
+    (λ g. ((hd, h1, fi .1), (i 6 g)))
+    (λ g. ((hd, h1, fi .1), (i 7 g))) tt) λ _.
     cond-both (eqb (opcode-of w) 0x33) _ _ P
-      (λ q. cases-mapped (λ o. Op o (rd-of w) (rs1-of w) (rs2-of w)) (λ o. (operation-high o ≡ funct7-of w) × (operation-code o ≡ funct3-of w)) R (operation-of (funct7-of w) (funct3-of w)) (operation-forth (funct7-of w) (funct3-of w))
-        λ o g. ((hd, h1, h2), (word-is w (operation-high o) (rs2-of w) (rs1-of w) (operation-code o) (rd-of w) 0x33 (g .0) refl refl (g .1) refl (eqb-true (opcode-of w) 0x33 q)))) λ _.
+    (λ q. cases-mapped (λ o. Op o (rd-of w) (rs1-of w) (rs2-of w)) (λ o. (operation-high o ≡ funct7-of w) × (operation-code o ≡ funct3-of w)) R (operation-of (funct7-of w) (funct3-of w)) (operation-forth (funct7-of w) (funct3-of w))
+    λ o g. ((hd, h1, h2), (word-is w (operation-high o) (rs2-of w) (rs1-of w) (operation-code o) (rd-of w) 0x33 (g .0) refl refl (g .1) refl (eqb-true (opcode-of w) 0x33 q)))) λ _.
     cond-both (eqb (opcode-of w) 0x0f) _ _ P
-      (λ q. cond-both (eqb (funct3-of w) 0) _ _ P
-        (λ r. let x = fm-of w * 256 + pred-of w * 16 + succ-of w in
-          let o = orders-back w h in
-          let g : word-of (pos x) % 4096 ≡ w / 1048576 = small-imm x (imm-small w x h o) ∙ o in
-          ((four-bits (w / 268435456), four-bits (w / 16777216), four-bits (w / 1048576), hd, h1), i-word w (word-of (pos x)) 0 0x0f g (sym (eqb-true (funct3-of w) 0 r)) (eqb-true (opcode-of w) 0x0f q))) (λ _. tt)) λ _.
+    (λ q. cond-both (eqb (funct3-of w) 0) _ _ P
+    (λ r. let x = fm-of w * 256 + pred-of w * 16 + succ-of w in
+    let o = orders-back w h in
+    let g : word-of (pos x) % 4096 ≡ w / 1048576 = small-imm x (imm-small w x h o) ∙ o in
+    ((four-bits (w / 268435456), four-bits (w / 16777216), four-bits (w / 1048576), hd, h1), i-word w (word-of (pos x)) 0 0x0f g (sym (eqb-true (funct3-of w) 0 r)) (eqb-true (opcode-of w) 0x0f q))) (λ _. tt)) λ _.
     cond-both (eqb w 0x73) _ _ P (λ q. (tt, (sym (eqb-true w 0x73 q)))) λ _. tt
 
 -- a well-formed instruction has its word, and no other has one
@@ -481,8 +488,9 @@ encode-back w h = go (decode-of w) (encodes-back w h)
 
 pub inverse : (i : Instruction) → Inverse (encode-of i) i
 inverse i = (
-    (λ w e. let p = of-encoded i w e in rw (p .1) (decodes-back i (p .0))),
-    (λ w h e. let p = encode-back w h in rw e at p))
+  (λ w e. let p = of-encoded i w e in rw (p .1) (decodes-back i (p .0))),
+  (λ w h e. let p = encode-back w h in rw e at p),
+)
 
 -- what encode answers
 pub answer-some : (i : Instruction) (w : ℕ) → formed i ≡ true → w ≡ encoded i → Some w ≡ encode-of i

@@ -32,7 +32,7 @@ module _ (c : Cpu) (m : List ℕ) where
   not-fetched h = rw h
 
   pub fetched : (d : Cpu) (w : ℕ) (e : Effect) → meets (length m) (c .pc) 4 ≡ true → w ≡ word-at m (c .pc) → e ≡ performed w c .0 → d ≡ performed w c .1
-    → act-of c m ≡ effected m (e, d)
+      → act-of c m ≡ effected m (e, d)
   unfolding act-of
   fetched d w e h p q r = rw (h, ← p, q, r)
 
@@ -55,12 +55,13 @@ module _ (c : Cpu) (m : List ℕ) where
 pub steps : Steps
 unfolding effected
 steps = record {
-    no-fetch = λ c m h. not-fetched c m (meets-false _ _ _ h);
-    fetch = λ c d m w e h k p q r. fetched c m d w e (meets-true _ _ _ h k) p q r;
-    nothing = λ c m. refl;
-    call = λ c m a. refl;
-    no-word = λ c m. refl;
-    no-load = λ c m width rd a h. not-loaded c m width rd a (meets-false _ _ _ h);
-    load = λ c m width rd a h k. has-loaded c m width rd a (meets-true _ _ _ h k);
-    no-store = λ c m width a v h. not-stored c m width a v (meets-false _ _ _ h);
-    puts = λ c m width a v h k. has-stored c m width a v (meets-true _ _ _ h k) }
+  no-fetch = λ c m h. not-fetched c m (meets-false _ _ _ h);
+  fetch = λ c d m w e h k p q r. fetched c m d w e (meets-true _ _ _ h k) p q r;
+  nothing = λ c m. refl;
+  call = λ c m a. refl;
+  no-word = λ c m. refl;
+  no-load = λ c m width rd a h. not-loaded c m width rd a (meets-false _ _ _ h);
+  load = λ c m width rd a h k. has-loaded c m width rd a (meets-true _ _ _ h k);
+  no-store = λ c m width a v h. not-stored c m width a v (meets-false _ _ _ h);
+  puts = λ c m width a v h k. has-stored c m width a v (meets-true _ _ _ h k);
+}

@@ -56,11 +56,12 @@ meets size a n = eqb (a % n) 0 && leb (a + n) size
 -- what is left to do when the registers are done with, done in a memory
 unfoldable pub effected : List ℕ → Effect × Cpu → Act Cpu
 effected m e = elim (e .0) [
-    E.Quiet ↦ quiet (e .1)
+  | E.Quiet ↦ quiet (e .1)
   | E.Load width rd a ↦ cond (meets (length m) a (load-size width)) (quiet (finished (e .1) rd (loaded width m a))) wrong
   | E.Store width a v ↦ cond (meets (length m) a (store-size width)) (store a (stored width v) (e .1)) wrong
   | E.Call call ↦ asks call
-  | E.Wrong ↦ wrong ]
+  | E.Wrong ↦ wrong
+]
 
 -- the word at the pc is fetched and carried out; a pc that does not meet the memory is wrong
 unfoldable pub act-of : Cpu → List ℕ → Act Cpu

@@ -24,7 +24,7 @@ pub record Steps : Type 0 where
   pub no-fetch : (c : Cpu) (m : List ℕ) → Misses (length m) (c .pc) 4 → core .act c m ≡ wrong
   -- else, where execute answers e for the word at the pc and leaves the registers d, the effect of e is left to do
   pub fetch : (c d : Cpu) (m : List ℕ) (w : ℕ) (e : Effect) → c .pc % 4 ≡ 0 → c .pc + 4 ≤ length m → w ≡ word-at m (c .pc)
-    → e ≡ performed w c .0 → d ≡ performed w c .1 → core .act c m ≡ effected m (e, d)
+      → e ≡ performed w c .0 → d ≡ performed w c .1 → core .act c m ≡ effected m (e, d)
   -- nothing, a call, a wrong instruction
   pub nothing : (c : Cpu) (m : List ℕ) → effected m (E.Quiet, c) ≡ quiet c
   pub call : (c : Cpu) (m : List ℕ) (a : Call) → effected m (E.Call a, c) ≡ asks a
@@ -32,8 +32,8 @@ pub record Steps : Type 0 where
   -- a load that does not meet the memory is wrong; one that does ends with the word that is there
   pub no-load : (c : Cpu) (m : List ℕ) (width : LoadWidth) (rd a : ℕ) → Misses (length m) a (load-size width) → effected m (E.Load width rd a, c) ≡ wrong
   pub load : (c : Cpu) (m : List ℕ) (width : LoadWidth) (rd a : ℕ) → a % load-size width ≡ 0 → a + load-size width ≤ length m
-    → effected m (E.Load width rd a, c) ≡ quiet (finished c rd (loaded width m a))
+      → effected m (E.Load width rd a, c) ≡ quiet (finished c rd (loaded width m a))
   -- a store that does not meet the memory is wrong; one that does puts its bytes there
   pub no-store : (c : Cpu) (m : List ℕ) (width : StoreWidth) (a v : ℕ) → Misses (length m) a (store-size width) → effected m (E.Store width a v, c) ≡ wrong
   pub puts : (c : Cpu) (m : List ℕ) (width : StoreWidth) (a v : ℕ) → a % store-size width ≡ 0 → a + store-size width ≤ length m
-    → effected m (E.Store width a v, c) ≡ store a (stored width v) c
+      → effected m (E.Store width a v, c) ≡ store a (stored width v) c

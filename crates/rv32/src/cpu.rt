@@ -13,8 +13,16 @@ pub struct Cpu {
 #[derive(Clone, Copy)]
 pub enum Effect {
     Quiet,
-    Load { width: LoadWidth, rd: u8, address: u32 },
-    Store { width: StoreWidth, address: u32, value: u32 },
+    Load {
+        width: LoadWidth,
+        rd: u8,
+        address: u32,
+    },
+    Store {
+        width: StoreWidth,
+        address: u32,
+        value: u32,
+    },
     Call(Call),
     Wrong,
 }
@@ -23,7 +31,11 @@ pub enum Effect {
 #[derive(Clone, Copy)]
 pub enum Action {
     Quiet,
-    Store { width: StoreWidth, address: u32, value: u32 },
+    Store {
+        width: StoreWidth,
+        address: u32,
+        value: u32,
+    },
     Call(Call),
     Wrong,
 }

@@ -5,7 +5,6 @@ ghost use Rattle.std.specs.declared.option.Option.the-variants.{Some};
 ghost use Rattle.rv32.specs.Decode.{operation-of, condition-of, load-width-of, store-width-of, op-imm-of, decode-of};
 ghost use Rattle.rv32.specs.Encode.{encode-of};
 ghost use Rattle.rv32.specs.Execute.{Sound};
-
 use crate::fields::*;
 use crate::instruction::*;
 
@@ -82,7 +81,7 @@ fn op_imm(word: u32) -> Option<Instruction>
         7 => (Operation::And, immediate_i(word)),
         _ => return None,
     };
-    Some(Instruction::OpImm { operation, rd: rd(word), rs1: rs1(word), imm })
+    Some(Instruction::OpImm(operation, rd(word), rs1(word), imm))
 }
 
 // The match on the opcode.
@@ -92,30 +91,30 @@ pub(crate) fn by_opcode(word: u32) -> Option<Instruction>
 {
     let (rd, rs1, rs2) = (rd(word), rs1(word), rs2(word));
     match opcode(word) {
-        0x37 => Some(Instruction::Lui { rd, imm: immediate_u(word) }),
-        0x17 => Some(Instruction::Auipc { rd, imm: immediate_u(word) }),
-        0x6f => Some(Instruction::Jal { rd, offset: immediate_j(word) }),
-        0x67 if funct3(word) == 0 => Some(Instruction::Jalr { rd, rs1, offset: immediate_i(word) }),
+        0x37 => Some(Instruction::Lui(rd, immediate_u(word))),
+        0x17 => Some(Instruction::Auipc(rd, immediate_u(word))),
+        0x6f => Some(Instruction::Jal(rd, immediate_j(word))),
+        0x67 if funct3(word) == 0 => Some(Instruction::Jalr(rd, rs1, immediate_i(word))),
         0x63 => {
             let condition = condition(funct3(word))?;
-            Some(Instruction::Branch { condition, rs1, rs2, offset: immediate_b(word) })
+            Some(Instruction::Branch(condition, rs1, rs2, immediate_b(word)))
         }
         0x03 => {
             let width = load_width(funct3(word))?;
-            Some(Instruction::Load { width, rd, rs1, offset: immediate_i(word) })
+            Some(Instruction::Load(width, rd, rs1, immediate_i(word)))
         }
         0x23 => {
             let width = store_width(funct3(word))?;
-            Some(Instruction::Store { width, rs1, rs2, offset: immediate_s(word) })
+            Some(Instruction::Store(width, rs1, rs2, immediate_s(word)))
         }
         0x13 => op_imm(word),
         0x33 => {
             let operation = operation(funct7(word), funct3(word))?;
-            Some(Instruction::Op { operation, rd, rs1, rs2 })
+            Some(Instruction::Op(operation, rd, rs1, rs2))
         }
         0x0f if funct3(word) == 0 => {
             let (fm, pred, succ) = orderings(word);
-            Some(Instruction::Fence { fm, pred, succ, rd, rs1 })
+            Some(Instruction::Fence(fm, pred, succ, rd, rs1))
         }
         0x73 if word == 0x73 => Some(Instruction::Ecall),
         _ => None,

@@ -5,8 +5,8 @@ ghost use Prim.Native.Nat.{_<_};
 ghost use Rattle.rv32.specs.Encode.{between, even, immediate-fits, formed, condition-code, load-code, store-code, operation-code, operation-high};
 ghost use Rattle.rv32.specs.Encode.{packed, packed-i, packed-s, packed-b, packed-u, packed-j, encoded, encode-of, Inverse};
 ghost use Rattle.rv32.specs.Execute.{Sound};
-
-use crate::fields::{bits, join};
+use crate::fields::bits;
+use crate::fields::join;
 use crate::instruction::*;
 
 // From `low` on, below `high`.
@@ -38,15 +38,30 @@ fn is_formed(instruction: Instruction) -> bool
     ensures sound { λ r. ⌜ (r ≡ true → Sound instruction) ⌝ }
 {
     match instruction {
-        Instruction::Lui { rd, imm } | Instruction::Auipc { rd, imm } => rd < 32 && imm % 4096 == 0,
-        Instruction::Jal { rd, offset } => rd < 32 && between(-1_048_576, 1_048_576, offset) && is_even(offset),
-        Instruction::Jalr { rd, rs1, offset } => rd < 32 && rs1 < 32 && between(-2048, 2048, offset),
-        Instruction::Branch { condition: _, rs1, rs2, offset } => rs1 < 32 && rs2 < 32 && between(-4096, 4096, offset) && is_even(offset),
-        Instruction::Load { width: _, rd, rs1, offset } => rd < 32 && rs1 < 32 && between(-2048, 2048, offset),
-        Instruction::Store { width: _, rs1, rs2, offset } => rs1 < 32 && rs2 < 32 && between(-2048, 2048, offset),
-        Instruction::OpImm { operation, rd, rs1, imm } => rd < 32 && rs1 < 32 && immediate_fits(operation, imm),
-        Instruction::Op { operation: _, rd, rs1, rs2 } => rd < 32 && rs1 < 32 && rs2 < 32,
-        Instruction::Fence { fm, pred, succ, rd, rs1 } => fm < 16 && pred < 16 && succ < 16 && rd < 32 && rs1 < 32,
+        Instruction::Lui(rd, imm) | Instruction::Auipc(rd, imm) => rd < 32 && imm % 4096 == 0,
+        Instruction::Jal(rd, offset) => rd < 32
+            && between(-1_048_576, 1_048_576, offset)
+            && is_even(offset),
+        Instruction::Jalr(rd, rs1, offset) => rd < 32 && rs1 < 32 && between(-2048, 2048, offset),
+        Instruction::Branch(_, rs1, rs2, offset) => rs1 < 32
+            && rs2 < 32
+            && between(-4096, 4096, offset)
+            && is_even(offset),
+        Instruction::Load(_, rd, rs1, offset) => rd < 32
+            && rs1 < 32
+            && between(-2048, 2048, offset),
+        Instruction::Store(_, rs1, rs2, offset) => rs1 < 32
+            && rs2 < 32
+            && between(-2048, 2048, offset),
+        Instruction::OpImm(operation, rd, rs1, imm) => rd < 32
+            && rs1 < 32
+            && immediate_fits(operation, imm),
+        Instruction::Op(_, rd, rs1, rs2) => rd < 32 && rs1 < 32 && rs2 < 32,
+        Instruction::Fence(fm, pred, succ, rd, rs1) => fm < 16
+            && pred < 16
+            && succ < 16
+            && rd < 32
+            && rs1 < 32,
         Instruction::Ecall => true,
     }
 }
@@ -127,7 +142,14 @@ fn pack_i(imm: i32, rs1: u8, funct3: u32, rd: u8, opcode: u32) -> u32
     ensures { λ r. ⌜ r ≡ packed-i imm rs1 funct3 rd opcode ⌝ }
 {
     let imm = imm.cast_unsigned();
-    pack(bits(imm, 5, 7), bits(imm, 0, 5), rs1, funct3, rd as u32, opcode)
+    pack(
+        bits(imm, 5, 7),
+        bits(imm, 0, 5),
+        rs1,
+        funct3,
+        rd as u32,
+        opcode,
+    )
 }
 
 fn pack_s(imm: i32, rs2: u8, rs1: u8, funct3: u32, opcode: u32) -> u32
@@ -135,7 +157,14 @@ fn pack_s(imm: i32, rs2: u8, rs1: u8, funct3: u32, opcode: u32) -> u32
     ensures { λ r. ⌜ r ≡ packed-s imm rs2 rs1 funct3 opcode ⌝ }
 {
     let imm = imm.cast_unsigned();
-    pack(bits(imm, 5, 7), rs2 as u32, rs1, funct3, bits(imm, 0, 5), opcode)
+    pack(
+        bits(imm, 5, 7),
+        rs2 as u32,
+        rs1,
+        funct3,
+        bits(imm, 0, 5),
+        opcode,
+    )
 }
 
 fn pack_b(imm: i32, rs2: u8, rs1: u8, funct3: u32, opcode: u32) -> u32
@@ -173,7 +202,14 @@ fn pack_op_imm(operation: Operation, rd: u8, rs1: u8, imm: i32) -> u32
     let code = operation_code(operation);
     match operation {
         Operation::Sll | Operation::Srl | Operation::Sra => {
-            pack(operation_high(operation), bits(imm.cast_unsigned(), 0, 5), rs1, code, rd as u32, 0x13)
+            pack(
+                operation_high(operation),
+                bits(imm.cast_unsigned(), 0, 5),
+                rs1,
+                code,
+                rd as u32,
+                0x13,
+            )
         }
         _ => pack_i(imm, rs1, code, rd, 0x13),
     }
@@ -192,18 +228,43 @@ fn word_of(instruction: Instruction) -> u32
     ensures { λ r. ⌜ r ≡ encoded instruction ⌝ }
 {
     match instruction {
-        Instruction::Lui { rd, imm } => pack_u(imm, rd, 0x37),
-        Instruction::Auipc { rd, imm } => pack_u(imm, rd, 0x17),
-        Instruction::Jal { rd, offset } => pack_j(offset, rd, 0x6f),
-        Instruction::Jalr { rd, rs1, offset } => pack_i(offset, rs1, 0, rd, 0x67),
-        Instruction::Branch { condition, rs1, rs2, offset } => pack_b(offset, rs2, rs1, condition_code(condition), 0x63),
-        Instruction::Load { width, rd, rs1, offset } => pack_i(offset, rs1, load_code(width), rd, 0x03),
-        Instruction::Store { width, rs1, rs2, offset } => pack_s(offset, rs2, rs1, store_code(width), 0x23),
-        Instruction::OpImm { operation, rd, rs1, imm } => pack_op_imm(operation, rd, rs1, imm),
-        Instruction::Op { operation, rd, rs1, rs2 } => {
-            pack(operation_high(operation), rs2 as u32, rs1, operation_code(operation), rd as u32, 0x33)
+        Instruction::Lui(rd, imm) => pack_u(imm, rd, 0x37),
+        Instruction::Auipc(rd, imm) => pack_u(imm, rd, 0x17),
+        Instruction::Jal(rd, offset) => pack_j(offset, rd, 0x6f),
+        Instruction::Jalr(rd, rs1, offset) => pack_i(offset, rs1, 0, rd, 0x67),
+        Instruction::Branch(condition, rs1, rs2, offset) => pack_b(
+            offset,
+            rs2,
+            rs1,
+            condition_code(condition),
+            0x63,
+        ),
+        Instruction::Load(width, rd, rs1, offset) => pack_i(
+            offset,
+            rs1,
+            load_code(width),
+            rd,
+            0x03,
+        ),
+        Instruction::Store(width, rs1, rs2, offset) => pack_s(
+            offset,
+            rs2,
+            rs1,
+            store_code(width),
+            0x23,
+        ),
+        Instruction::OpImm(operation, rd, rs1, imm) => pack_op_imm(operation, rd, rs1, imm),
+        Instruction::Op(operation, rd, rs1, rs2) => {
+            pack(
+                operation_high(operation),
+                rs2 as u32,
+                rs1,
+                operation_code(operation),
+                rd as u32,
+                0x33,
+            )
         }
-        Instruction::Fence { fm, pred, succ, rd, rs1 } => pack_fence(fm, pred, succ, rd, rs1),
+        Instruction::Fence(fm, pred, succ, rd, rs1) => pack_fence(fm, pred, succ, rd, rs1),
         Instruction::Ecall => 0x73,
     }
 }

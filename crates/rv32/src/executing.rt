@@ -2,7 +2,6 @@
 ghost use mathlib.Core.Path.{_≡_};
 ghost use Prim.Native.Nat.{_%_, _<_};
 ghost use Rattle.rv32.specs.Execute.{reg-of, with-reg, stepped, finished, jumped, call-of, call-in, executed, performed, fresh, answered, Sound, Sound-effect, Waits};
-
 use crate::compute::*;
 use crate::cpu::*;
 use crate::decoding::by_opcode;
@@ -126,38 +125,45 @@ impl Cpu {
         ensures aligned { λ _. ⌜ (now (self .entry) .pc % 4 ≡ 0 → now (self .exit) .pc % 4 ≡ 0) ⌝ }
     {
         match instruction {
-            Instruction::Lui { rd, imm } => self.finish(rd, imm),
-            Instruction::Auipc { rd, imm } => self.finish(rd, self.pc.wrapping_add(imm)),
-            Instruction::Jal { rd, offset } => return self.jump(rd, self.pc.wrapping_add_signed(offset)),
-            Instruction::Jalr { rd, rs1, offset } => {
+            Instruction::Lui(rd, imm) => self.finish(rd, imm),
+            Instruction::Auipc(rd, imm) => self.finish(rd, self.pc.wrapping_add(imm)),
+            Instruction::Jal(rd, offset) => {
+                let target = self.pc.wrapping_add_signed(offset);
+                return self.jump(rd, target);
+            }
+            Instruction::Jalr(rd, rs1, offset) => {
                 let target = self.read(rs1).wrapping_add_signed(offset);
                 return self.jump(rd, target & 0xffff_fffe);
             }
-            Instruction::Branch { condition, rs1, rs2, offset } => {
+            Instruction::Branch(condition, rs1, rs2, offset) => {
                 if holds(condition, self.read(rs1), self.read(rs2)) {
                     return self.jump(0, self.pc.wrapping_add_signed(offset));
                 }
                 self.step();
             }
-            Instruction::Load { width, rd, rs1, offset } => {
+            Instruction::Load(width, rd, rs1, offset) => {
                 let address = self.read(rs1).wrapping_add_signed(offset);
                 return Effect::Load { width, rd, address };
             }
-            Instruction::Store { width, rs1, rs2, offset } => {
+            Instruction::Store(width, rs1, rs2, offset) => {
                 let address = self.read(rs1).wrapping_add_signed(offset);
                 let value = self.read(rs2);
                 self.step();
-                return Effect::Store { width, address, value };
+                return Effect::Store {
+                    width,
+                    address,
+                    value,
+                };
             }
-            Instruction::OpImm { operation, rd, rs1, imm } => {
+            Instruction::OpImm(operation, rd, rs1, imm) => {
                 let value = compute(operation, self.read(rs1), imm.cast_unsigned());
                 self.finish(rd, value);
             }
-            Instruction::Op { operation, rd, rs1, rs2 } => {
+            Instruction::Op(operation, rd, rs1, rs2) => {
                 let value = compute(operation, self.read(rs1), self.read(rs2));
                 self.finish(rd, value);
             }
-            Instruction::Fence { .. } => self.step(),
+            Instruction::Fence(..) => self.step(),
             Instruction::Ecall => return Effect::Call(self.call()),
         }
         Effect::Quiet

@@ -60,7 +60,11 @@ pub(crate) fn funct7(word: u32) -> u32
 pub(crate) fn orderings(word: u32) -> (u8, u8, u8)
     ensures { λ r. ⌜ r ≡ (fm-of word, pred-of word, succ-of word) ⌝ }
 {
-    (bits(word, 28, 4) as u8, bits(word, 24, 4) as u8, bits(word, 20, 4) as u8)
+    (
+        bits(word, 28, 4) as u8,
+        bits(word, 24, 4) as u8,
+        bits(word, 20, 4) as u8,
+    )
 }
 
 pub(crate) fn immediate_u(word: u32) -> u32

@@ -45,19 +45,27 @@ pub enum StoreWidth {
     Word,
 }
 
+// The parts of an instruction stand in this order: what it does, rd, rs1, rs2, the immediate.
 #[derive(Clone, Copy)]
 pub enum Instruction {
-    // `imm` is the whole word, whose 12 low bits are 0
-    Lui { rd: u8, imm: u32 },
-    Auipc { rd: u8, imm: u32 },
-    Jal { rd: u8, offset: i32 },
-    Jalr { rd: u8, rs1: u8, offset: i32 },
-    Branch { condition: Condition, rs1: u8, rs2: u8, offset: i32 },
-    Load { width: LoadWidth, rd: u8, rs1: u8, offset: i32 },
-    Store { width: StoreWidth, rs1: u8, rs2: u8, offset: i32 },
-    OpImm { operation: Operation, rd: u8, rs1: u8, imm: i32 },
-    Op { operation: Operation, rd: u8, rs1: u8, rs2: u8 },
-    // nothing is done by it, whatever its fields hold: the mode, what goes before (predecessors) and what after (successors), and two unused registers
-    Fence { fm: u8, pred: u8, succ: u8, rd: u8, rs1: u8 },
+    // rd, and the word whose upper 20 bits the instruction holds; its 12 low bits are 0
+    Lui(u8, u32),
+    Auipc(u8, u32),
+    // rd, and the offset from the instruction's own address
+    Jal(u8, i32),
+    // rd, rs1, and the offset from what rs1 holds
+    Jalr(u8, u8, i32),
+    // rs1, rs2, and the offset from the instruction's own address
+    Branch(Condition, u8, u8, i32),
+    // rd, rs1, and the offset from what rs1 holds
+    Load(LoadWidth, u8, u8, i32),
+    // rs1, rs2, and the offset from what rs1 holds
+    Store(StoreWidth, u8, u8, i32),
+    // rd, rs1 and the immediate
+    OpImm(Operation, u8, u8, i32),
+    // rd, rs1, rs2
+    Op(Operation, u8, u8, u8),
+    // the mode, the predecessors and the successors (four bits each), rd, rs1; whatever they hold, nothing is done
+    Fence(u8, u8, u8, u8, u8),
     Ecall,
 }

@@ -9,9 +9,21 @@ mod instruction;
 mod listing;
 mod memory;
 
-pub use cpu::{Action, Cpu, Effect};
+pub use cpu::Action;
+pub use cpu::Cpu;
+pub use cpu::Effect;
 pub use decoding::decode;
 pub use encoding::encode;
 pub use executing::call_of;
-pub use instruction::{Condition, Instruction, LoadWidth, Operation, StoreWidth};
-pub use memory::{act, load, steps_stand, store};
+pub use instruction::Condition;
+pub use instruction::Instruction;
+pub use instruction::LoadWidth;
+pub use instruction::Operation;
+pub use instruction::StoreWidth;
+pub use memory::act;
+pub use memory::load;
+pub use memory::steps_stand;
+pub use memory::store;
+
+#[cfg(test)]
+mod tests;

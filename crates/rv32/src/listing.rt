@@ -3,7 +3,6 @@ ghost use mathlib.Core.Path.{_≡_};
 ghost use Prim.Native.Nat.{_<_, _≤_};
 ghost use Rattle.std.specs.declared.option.Option.the-variants.{Some};
 ghost use Rattle.rv32.specs.Listing.{name-of, operation-name, immediate-name, condition-name, load-name, store-name, order-name, written};
-
 use crate::instruction::*;
 use std::fmt;
 
@@ -175,22 +174,36 @@ pub impl fmt::Display for Instruction as InstructionDisplay {
 
     fn fmt<W: fmt::Write>(&self, f: &mut fmt::Formatter<W>) -> fmt::Result {
         match *self {
-            Instruction::Lui { rd, imm } => write!(f, "lui {}, {}", register(rd), imm >> 12),
-            Instruction::Auipc { rd, imm } => write!(f, "auipc {}, {}", register(rd), imm >> 12),
-            Instruction::Jal { rd, offset } => write!(f, "jal {}, {offset}", register(rd)),
-            Instruction::Jalr { rd, rs1, offset } => write!(f, "jalr {}, {offset}({})", register(rd), register(rs1)),
-            Instruction::Branch { condition, rs1, rs2, offset } => {
-                write!(f, "{} {}, {}, {offset}", condition.name(), register(rs1), register(rs2))
+            Instruction::Lui(rd, imm) => write!(f, "lui {}, {}", register(rd), imm >> 12),
+            Instruction::Auipc(rd, imm) => write!(f, "auipc {}, {}", register(rd), imm >> 12),
+            Instruction::Jal(rd, offset) => write!(f, "jal {}, {offset}", register(rd)),
+            Instruction::Jalr(rd, rs1, offset) => {
+                let (rd, rs1) = (register(rd), register(rs1));
+                write!(f, "jalr {rd}, {offset}({rs1})")
             }
-            Instruction::Load { width, rd, rs1, offset } => write!(f, "{} {}, {offset}({})", width.name(), register(rd), register(rs1)),
-            Instruction::Store { width, rs1, rs2, offset } => write!(f, "{} {}, {offset}({})", width.name(), register(rs2), register(rs1)),
-            Instruction::OpImm { operation, rd, rs1, imm } => {
-                write!(f, "{} {}, {}, {imm}", operation.immediate_name(), register(rd), register(rs1))
+            Instruction::Branch(condition, rs1, rs2, offset) => {
+                let (name, rs1, rs2) = (condition.name(), register(rs1), register(rs2));
+                write!(f, "{name} {rs1}, {rs2}, {offset}")
             }
-            Instruction::Op { operation, rd, rs1, rs2 } => {
-                write!(f, "{} {}, {}, {}", operation.name(), register(rd), register(rs1), register(rs2))
+            Instruction::Load(width, rd, rs1, offset) => {
+                let (name, rd, rs1) = (width.name(), register(rd), register(rs1));
+                write!(f, "{name} {rd}, {offset}({rs1})")
             }
-            Instruction::Fence { pred, succ, .. } => write!(f, "fence {}, {}", order(pred), order(succ)),
+            Instruction::Store(width, rs1, rs2, offset) => {
+                let (name, rs1, rs2) = (width.name(), register(rs1), register(rs2));
+                write!(f, "{name} {rs2}, {offset}({rs1})")
+            }
+            Instruction::OpImm(operation, rd, rs1, imm) => {
+                let (name, rd, rs1) = (operation.immediate_name(), register(rd), register(rs1));
+                write!(f, "{name} {rd}, {rs1}, {imm}")
+            }
+            Instruction::Op(operation, rd, rs1, rs2) => {
+                let (rd, rs1, rs2) = (register(rd), register(rs1), register(rs2));
+                write!(f, "{} {rd}, {rs1}, {rs2}", operation.name())
+            }
+            Instruction::Fence(_, pred, succ, _, _) => {
+                write!(f, "fence {}, {}", order(pred), order(succ))
+            }
             Instruction::Ecall => write!(f, "ecall"),
         }
     }

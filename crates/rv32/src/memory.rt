@@ -6,10 +6,12 @@ ghost use lib.ListN.{length};
 ghost use Rattle.bytes.specs.Rows.{over};
 ghost use Rattle.rv32.specs.Act.{load-size, loaded, store-size, stored, meets, core, shown, Rests, Meets};
 ghost use Rattle.rv32.specs.Steps.{Steps};
-
 use crate::cpu::*;
 use crate::instruction::*;
-use bytes::{half, put_half, put_word, word};
+use bytes::half;
+use bytes::put_half;
+use bytes::put_word;
+use bytes::word;
 
 impl LoadWidth {
     // How many bytes are loaded.
@@ -92,11 +94,19 @@ pub fn act(cpu: &mut Cpu, memory: &[u8]) -> Action
             cpu.finish(rd, load(memory, width, address as usize));
             Action::Quiet
         }
-        Effect::Store { width, address, value } => {
+        Effect::Store {
+            width,
+            address,
+            value,
+        } => {
             if !within(memory, address, width.size()) {
                 return Action::Wrong;
             }
-            Action::Store { width, address, value }
+            Action::Store {
+                width,
+                address,
+                value,
+            }
         }
         Effect::Call(call) => Action::Call(call),
         Effect::Wrong => Action::Wrong,
