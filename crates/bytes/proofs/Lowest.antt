@@ -14,6 +14,11 @@ unfolding lowest-from
 lowest-from-le test i zero = omega arith
 lowest-from-le test i (suc n) = pick-both (λ x. x ≤ i + suc n) _ _ _ (λ _. omega arith) (λ _. omega (arith, lowest-from-le test (suc i) n))
 
+pub lowest-from-ge : (test : ℕ → Bool) (i n : ℕ) → i ≤ lowest-from test i n
+unfolding lowest-from
+lowest-from-ge test i zero = omega arith
+lowest-from-ge test i (suc n) = pick-both (λ x. i ≤ x) _ _ _ (λ _. omega arith) (λ _. omega (arith, lowest-from-ge test (suc i) n))
+
 -- at the lowest place the test holds
 pub lowest-from-holds : (test : ℕ → Bool) (i n : ℕ) → lowest-from test i n < i + n → test (lowest-from test i n) ≡ true
 unfolding lowest-from

@@ -1,0 +1,12 @@
+pub mod Step
+pub mod Screens
+pub mod Files
+pub mod Others
+pub mod Rows
+pub mod Idle
+pub mod Turns
+pub mod Pipes
+pub mod Shapes
+pub mod Holds
+pub mod Within
+pub mod Lives
