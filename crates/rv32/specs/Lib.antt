@@ -6,3 +6,4 @@ pub mod Execute
 pub mod Act
 pub mod Steps
 pub mod Listing
+pub mod Programs

@@ -8,6 +8,7 @@ mod fields;
 mod instruction;
 mod listing;
 mod memory;
+mod theorems;
 
 pub use cpu::Action;
 pub use cpu::Cpu;
@@ -20,10 +21,12 @@ pub use instruction::Instruction;
 pub use instruction::LoadWidth;
 pub use instruction::Operation;
 pub use instruction::StoreWidth;
+pub use listing::InstructionDisplay;
 pub use memory::act;
 pub use memory::load;
-pub use memory::steps_stand;
 pub use memory::store;
+pub use theorems::programs_stand;
+pub use theorems::steps_stand;
 
 #[cfg(test)]
 mod tests;

@@ -5,7 +5,6 @@ ghost use Prim.Native.Nat.{_+_, _%_, _<_, _≤_};
 ghost use lib.ListN.{length};
 ghost use Rattle.bytes.specs.Rows.{over};
 ghost use Rattle.rv32.specs.Act.{load-size, loaded, store-size, stored, meets, core, shown, Rests, Meets};
-ghost use Rattle.rv32.specs.Steps.{Steps};
 use crate::cpu::*;
 use crate::instruction::*;
 use bytes::half;
@@ -111,11 +110,4 @@ pub fn act(cpu: &mut Cpu, memory: &[u8]) -> Action
         Effect::Call(call) => Action::Call(call),
         Effect::Wrong => Action::Wrong,
     }
-}
-
-// An instruction may be carried out in steps, where the memory is no row of bytes.
-pub fn steps_stand() -> u8
-    ensures { λ _. ⌜ Steps ⌝ }
-{
-    0
 }
