@@ -82,21 +82,21 @@ abbrev pub order-name : ℕ → List ℕ
 order-name n = getD order-names n (codes "?")
 
 -- two operands, three operands, and one in memory at an offset from a register
-abbrev two : List ℕ → List ℕ → List ℕ
+abbrev pub two : List ℕ → List ℕ → List ℕ
 two a b = a ++ (codes ", " ++ b)
 
-abbrev three : List ℕ → List ℕ → List ℕ → List ℕ
+abbrev pub three : List ℕ → List ℕ → List ℕ → List ℕ
 three a b c = a ++ (codes ", " ++ two b c)
 
-abbrev at : List ℕ → ℤ → ℕ → List ℕ
+abbrev pub at : List ℕ → ℤ → ℕ → List ℕ
 at a z r = a ++ (codes ", " ++ (signed z ++ (codes "(" ++ (name-of r ++ codes ")"))))
 
 -- an instruction as it is written; LUI and AUIPC with the 20 bits of their field, a fence without the fields that mean nothing
 abbrev pub written : Instruction → List ℕ
-written (Lui rd imm) = codes "lui " ++ two (name-of rd) (decimal (imm / 4096))
-written (Auipc rd imm) = codes "auipc " ++ two (name-of rd) (decimal (imm / 4096))
+written (Lui rd imm) = codes "lui" ++ (codes " " ++ two (name-of rd) (decimal (imm / 4096)))
+written (Auipc rd imm) = codes "auipc" ++ (codes " " ++ two (name-of rd) (decimal (imm / 4096)))
 written (Jal rd z) = codes "jal " ++ two (name-of rd) (signed z)
-written (Jalr rd rs1 z) = codes "jalr " ++ at (name-of rd) z rs1
+written (Jalr rd rs1 z) = codes "jalr" ++ (codes " " ++ at (name-of rd) z rs1)
 written (Branch t rs1 rs2 z) = condition-name t ++ (codes " " ++ three (name-of rs1) (name-of rs2) (signed z))
 written (Load width rd rs1 z) = load-name width ++ (codes " " ++ at (name-of rd) z rs1)
 written (Store width rs1 rs2 z) = store-name width ++ (codes " " ++ at (name-of rs2) z rs1)

@@ -1,8 +1,11 @@
 // Instructions as they are written in a listing.
 ghost use mathlib.Core.Path.{_≡_};
-ghost use Prim.Native.Nat.{_<_, _≤_};
+ghost use Prim.Native.Nat.{_/_, _<_, _≤_};
+ghost use mathlib.Core.List.{_++_};
+ghost use lib.Chars.{codes};
+ghost use Rattle.std.specs.Written.{Prints, decimal, signed};
 ghost use Rattle.std.specs.declared.option.Option.the-variants.{Some};
-ghost use Rattle.rv32.specs.Listing.{name-of, operation-name, immediate-name, condition-name, load-name, store-name, order-name, written};
+ghost use Rattle.rv32.specs.Listing.{two, three, at, name-of, operation-name, immediate-name, condition-name, load-name, store-name, order-name, written};
 use crate::instruction::*;
 use std::fmt;
 
@@ -169,41 +172,85 @@ impl StoreWidth {
     }
 }
 
+// A register, and the upper 20 bits of a word.
+fn show_upper<W: fmt::Write>(f: &mut fmt::Formatter<W>, name: &str, r: u8, imm: u32) -> fmt::Result
+    ensures { λ x. ⌜ Prints took (now (f .entry)) x (now (name .entry) ++ (codes " " ++ two (name-of r) (decimal (imm / 4096)))) (now (f .exit)) ⌝ }
+{
+    write!(f, "{name} {}, {}", register(r), imm >> 12)
+}
+
+// A register, and an operand in memory at an offset from another register.
+fn show_at<W: fmt::Write>(
+    f: &mut fmt::Formatter<W>,
+    name: &str,
+    r: u8,
+    offset: i32,
+    base: u8,
+) -> fmt::Result
+    ensures { λ x. ⌜ Prints took (now (f .entry)) x (now (name .entry) ++ (codes " " ++ at (name-of r) offset base)) (now (f .exit)) ⌝ }
+{
+    let (r, base) = (register(r), register(base));
+    write!(f, "{name} {r}, {offset}({base})")
+}
+
+// Two registers and a number.
+fn show_number<W: fmt::Write>(
+    f: &mut fmt::Formatter<W>,
+    name: &str,
+    r: u8,
+    s: u8,
+    n: i32,
+) -> fmt::Result
+    ensures { λ x. ⌜ Prints took (now (f .entry)) x (now (name .entry) ++ (codes " " ++ three (name-of r) (name-of s) (signed n))) (now (f .exit)) ⌝ }
+{
+    let (r, s) = (register(r), register(s));
+    write!(f, "{name} {r}, {s}, {n}")
+}
+
+// Three registers.
+fn show_registers<W: fmt::Write>(
+    f: &mut fmt::Formatter<W>,
+    name: &str,
+    r: u8,
+    s: u8,
+    t: u8,
+) -> fmt::Result
+    ensures { λ x. ⌜ Prints took (now (f .entry)) x (now (name .entry) ++ (codes " " ++ three (name-of r) (name-of s) (name-of t))) (now (f .exit)) ⌝ }
+{
+    let (r, s, t) = (register(r), register(s), register(t));
+    write!(f, "{name} {r}, {s}, {t}")
+}
+
+// What goes before and what after a fence.
+fn show_fence<W: fmt::Write>(f: &mut fmt::Formatter<W>, pred: u8, succ: u8) -> fmt::Result
+    ensures { λ x. ⌜ Prints took (now (f .entry)) x (codes "fence " ++ two (order-name pred) (order-name succ)) (now (f .exit)) ⌝ }
+{
+    write!(f, "fence {}, {}", order(pred), order(succ))
+}
+
 pub impl fmt::Display for Instruction as InstructionDisplay {
     ghost shown = { λ i. Some (written i) };
 
     fn fmt<W: fmt::Write>(&self, f: &mut fmt::Formatter<W>) -> fmt::Result {
         match *self {
-            Instruction::Lui(rd, imm) => write!(f, "lui {}, {}", register(rd), imm >> 12),
-            Instruction::Auipc(rd, imm) => write!(f, "auipc {}, {}", register(rd), imm >> 12),
+            Instruction::Lui(rd, imm) => show_upper(f, "lui", rd, imm),
+            Instruction::Auipc(rd, imm) => show_upper(f, "auipc", rd, imm),
             Instruction::Jal(rd, offset) => write!(f, "jal {}, {offset}", register(rd)),
-            Instruction::Jalr(rd, rs1, offset) => {
-                let (rd, rs1) = (register(rd), register(rs1));
-                write!(f, "jalr {rd}, {offset}({rs1})")
-            }
+            Instruction::Jalr(rd, rs1, offset) => show_at(f, "jalr", rd, offset, rs1),
             Instruction::Branch(condition, rs1, rs2, offset) => {
-                let (name, rs1, rs2) = (condition.name(), register(rs1), register(rs2));
-                write!(f, "{name} {rs1}, {rs2}, {offset}")
+                show_number(f, condition.name(), rs1, rs2, offset)
             }
-            Instruction::Load(width, rd, rs1, offset) => {
-                let (name, rd, rs1) = (width.name(), register(rd), register(rs1));
-                write!(f, "{name} {rd}, {offset}({rs1})")
-            }
+            Instruction::Load(width, rd, rs1, offset) => show_at(f, width.name(), rd, offset, rs1),
             Instruction::Store(width, rs1, rs2, offset) => {
-                let (name, rs1, rs2) = (width.name(), register(rs1), register(rs2));
-                write!(f, "{name} {rs2}, {offset}({rs1})")
+                show_at(f, width.name(), rs2, offset, rs1)
             }
             Instruction::OpImm(operation, rd, rs1, imm) => {
-                let (name, rd, rs1) = (operation.immediate_name(), register(rd), register(rs1));
-                write!(f, "{name} {rd}, {rs1}, {imm}")
+                show_number(f, operation.immediate_name(), rd, rs1, imm)
             }
             Instruction::Op(operation, rd, rs1, rs2) => {
-                let (rd, rs1, rs2) = (register(rd), register(rs1), register(rs2));
-                write!(f, "{} {rd}, {rs1}, {rs2}", operation.name())
+                show_registers(f, operation.name(), rd, rs1, rs2)
             }
-            Instruction::Fence(_, pred, succ, _, _) => {
-                write!(f, "fence {}, {}", order(pred), order(succ))
-            }
+            Instruction::Fence(_, pred, succ, _, _) => show_fence(f, pred, succ),
             Instruction::Ecall => write!(f, "ecall"),
         }
     }
