@@ -9,8 +9,8 @@ use lib.ListN.{length}
 use Rattle.std.proofs.shelf.Tests.{le-leb, lt-leb, eq-eqb, ne-eqb, and-right}
 use Rattle.bytes.specs.Words.{word-at}
 use Rattle.turns.specs.Core.Act.{quiet, store, wrong}
-use Rattle.rv32.specs.declared.instruction.LoadWidth.{LoadWidth}
-use Rattle.rv32.specs.declared.instruction.StoreWidth.{StoreWidth}
+use Rattle.instructions.specs.declared.instruction.LoadWidth.{LoadWidth}
+use Rattle.instructions.specs.declared.instruction.StoreWidth.{StoreWidth}
 use Rattle.rv32.specs.declared.cpu.Cpu.{Cpu}
 use Rattle.rv32.specs.declared.cpu.Effect.{Effect}
 use Rattle.rv32.specs.declared.cpu.Effect.the-variants as E

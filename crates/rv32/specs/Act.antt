@@ -8,17 +8,16 @@ use lib.Dec.{eqb, leb}
 use Rattle.bytes.specs.Words.{half-at, word-at, half-bytes, word-bytes}
 use Rattle.turns.specs.Core.{Act, Core}
 use Rattle.turns.specs.Core.Act.{quiet, store, asks, wrong}
-use Rattle.rv32.specs.declared.instruction.LoadWidth.{LoadWidth}
-use Rattle.rv32.specs.declared.instruction.LoadWidth.the-variants as L
-use Rattle.rv32.specs.declared.instruction.StoreWidth.{StoreWidth}
-use Rattle.rv32.specs.declared.instruction.StoreWidth.the-variants as S
+use Rattle.instructions.specs.declared.instruction.LoadWidth.{LoadWidth}
+use Rattle.instructions.specs.declared.instruction.LoadWidth.the-variants as L
+use Rattle.instructions.specs.declared.instruction.StoreWidth.{StoreWidth}
+use Rattle.instructions.specs.declared.instruction.StoreWidth.the-variants as S
 use Rattle.rv32.specs.declared.cpu.Cpu.{Cpu}
 use Rattle.rv32.specs.declared.cpu.Effect.{Effect}
 use Rattle.rv32.specs.declared.cpu.Effect.the-variants as E
 use Rattle.rv32.specs.declared.cpu.Action.{Action}
 use Rattle.rv32.specs.declared.cpu.Action.the-variants as A
-use Rattle.rv32.specs.Fields.{signed-of}
-use Rattle.rv32.specs.Compute.{word-of}
+use Rattle.instructions.specs.Fields.{signed-of, word-of}
 use Rattle.rv32.specs.Execute.{performed, finished, fresh, answered}
 
 -- how many bytes are loaded

@@ -5,21 +5,15 @@ use lib.Dec.{eqb, ltb}
 use lib.Bits.{bitAnd, bitOr, bitXor}
 use lib.IntN.{ℤ}
 use lib.Signed.{ltZ, shrZ}
-use mir.Val.{ofZ}
-use mir.Syntax.{w32}
-use Rattle.rv32.specs.declared.instruction.Operation.{Operation}
-use Rattle.rv32.specs.declared.instruction.Operation.the-variants.{Add, Sub, Sll, Slt, Sltu, Xor, Srl, Sra, Or, And}
-use Rattle.rv32.specs.declared.instruction.Condition.{Condition}
-use Rattle.rv32.specs.declared.instruction.Condition.the-variants.{Eq, Ne, Lt, Ge, Ltu, Geu}
-use Rattle.rv32.specs.Fields.{signed-of}
+use Rattle.instructions.specs.declared.instruction.Operation.{Operation}
+use Rattle.instructions.specs.declared.instruction.Operation.the-variants.{Add, Sub, Sll, Slt, Sltu, Xor, Srl, Sra, Or, And}
+use Rattle.instructions.specs.declared.instruction.Condition.{Condition}
+use Rattle.instructions.specs.declared.instruction.Condition.the-variants.{Eq, Ne, Lt, Ge, Ltu, Geu}
+use Rattle.instructions.specs.Fields.{signed-of, word-of}
 
 -- the number that a word stands for in two's complement
 abbrev pub signed : ℕ → ℤ
 signed x = signed-of 2147483648 x
-
--- the word that stands for a number in two's complement: the number modulo 2 ^ 32
-abbrev pub word-of : ℤ → ℕ
-word-of z = ofZ w32 z
 
 -- what an operation makes of two words; a shift takes the low five bits of the second, and SRA rounds down
 abbrev pub computed : Operation → ℕ → ℕ → ℕ

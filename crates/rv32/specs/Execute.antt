@@ -9,13 +9,14 @@ use Rattle.std.specs.declared.option.Option.{Option}
 use Rattle.std.specs.declared.option.Option.the-variants.{Some, None}
 use Rattle.turns.specs.declared.vocabulary.Call.{Call}
 use Rattle.turns.specs.declared.vocabulary.Call.the-variants as C
-use Rattle.rv32.specs.declared.instruction.Instruction.{Instruction}
-use Rattle.rv32.specs.declared.instruction.Instruction.the-variants.{Lui, Auipc, Jal, Jalr, Branch, Load, Store, OpImm, Op, Fence, Ecall}
+use Rattle.instructions.specs.declared.instruction.Instruction.{Instruction}
+use Rattle.instructions.specs.declared.instruction.Instruction.the-variants.{Lui, Auipc, Jal, Jalr, Branch, Load, Store, OpImm, Op, Fence, Ecall}
 use Rattle.rv32.specs.declared.cpu.Cpu.{Cpu}
 use Rattle.rv32.specs.declared.cpu.Effect.{Effect}
 use Rattle.rv32.specs.declared.cpu.Effect.the-variants as E
-use Rattle.rv32.specs.Compute.{computed, holds-of, word-of}
-use Rattle.rv32.specs.Decode.{decode-of}
+use Rattle.instructions.specs.Fields.{word-of}
+use Rattle.rv32.specs.Compute.{computed, holds-of}
+use Rattle.instructions.specs.Decode.{decode-of}
 
 -- what register n holds; register 0 is 0
 abbrev pub reg-of : Cpu → ℕ → ℕ
@@ -98,20 +99,6 @@ fresh n = record { regs = set (replicate 32 0) 2 n; pc = 0 }
 -- the answer of a call goes to x10
 abbrev pub answered : Cpu → ℕ → Cpu
 answered c v = finished c 10 v
-
--- the registers that an instruction names are registers, and the fields of FENCE have four bits
-abbrev pub Sound : Instruction → Type 0
-Sound (Lui rd imm) = rd < 32
-Sound (Auipc rd imm) = rd < 32
-Sound (Jal rd z) = rd < 32
-Sound (Jalr rd rs1 z) = (rd < 32) × (rs1 < 32)
-Sound (Branch t rs1 rs2 z) = (rs1 < 32) × (rs2 < 32)
-Sound (Load width rd rs1 z) = (rd < 32) × (rs1 < 32)
-Sound (Store width rs1 rs2 z) = (rs1 < 32) × (rs2 < 32)
-Sound (OpImm o rd rs1 z) = (rd < 32) × (rs1 < 32)
-Sound (Op o rd rs1 rs2) = (rd < 32) × (rs1 < 32) × (rs2 < 32)
-Sound (Fence fm pred succ rd rs1) = (fm < 16) × (pred < 16) × (succ < 16) × (rd < 32) × (rs1 < 32)
-Sound Ecall = Unit {0}
 
 -- the register that a load is for is one
 abbrev pub Sound-effect : Effect → Type 0

@@ -9,11 +9,11 @@ use Rattle.turns.specs.declared.vocabulary.Sizes.{Sizes}
 use Rattle.turns.specs.declared.vocabulary.State.the-variants.{Left}
 use Rattle.turns.specs.World.{World, process, begin, run, ticks}
 use Rattle.rv32.specs.declared.cpu.Cpu.{Cpu}
-use Rattle.rv32.specs.declared.instruction.Operation.the-variants.{Add}
-use Rattle.rv32.specs.declared.instruction.StoreWidth.the-variants.{Word}
-use Rattle.rv32.specs.declared.instruction.Instruction.{Instruction}
-use Rattle.rv32.specs.declared.instruction.Instruction.the-variants.{Lui, Store, OpImm, Ecall}
-use Rattle.rv32.specs.Encode.{encoded}
+use Rattle.instructions.specs.declared.instruction.Operation.the-variants.{Add}
+use Rattle.instructions.specs.declared.instruction.StoreWidth.the-variants.{Word}
+use Rattle.instructions.specs.declared.instruction.Instruction.{Instruction}
+use Rattle.instructions.specs.declared.instruction.Instruction.the-variants.{Lui, Store, OpImm, Ecall}
+use Rattle.instructions.specs.Encode.{encoded}
 use Rattle.rv32.specs.Act.{core}
 
 -- a small machine

@@ -7,8 +7,8 @@ use lib.ListN.{length}
 use Rattle.bytes.specs.Words.{word-at}
 use Rattle.turns.specs.declared.vocabulary.Call.{Call}
 use Rattle.turns.specs.Core.Act.{quiet, store, asks, wrong}
-use Rattle.rv32.specs.declared.instruction.LoadWidth.{LoadWidth}
-use Rattle.rv32.specs.declared.instruction.StoreWidth.{StoreWidth}
+use Rattle.instructions.specs.declared.instruction.LoadWidth.{LoadWidth}
+use Rattle.instructions.specs.declared.instruction.StoreWidth.{StoreWidth}
 use Rattle.rv32.specs.declared.cpu.Cpu.{Cpu}
 use Rattle.rv32.specs.declared.cpu.Effect.{Effect}
 use Rattle.rv32.specs.declared.cpu.Effect.the-variants as E

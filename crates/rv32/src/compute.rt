@@ -1,7 +1,8 @@
 // Operations and conditions on words of 32 bits.
 ghost use mathlib.Core.Path.{_≡_};
 ghost use Rattle.rv32.specs.Compute.{computed, holds-of};
-use crate::instruction::*;
+use instructions::Condition;
+use instructions::Operation;
 
 pub(crate) fn compute(operation: Operation, x: u32, y: u32) -> u32
     ensures { λ r. ⌜ r ≡ computed operation x y ⌝ }

@@ -1,4 +1,5 @@
-use crate::instruction::*;
+use instructions::LoadWidth;
+use instructions::StoreWidth;
 use turns::vocabulary::Call;
 
 // The registers of a process. Register 0 is read as 0, whatever the array holds there.

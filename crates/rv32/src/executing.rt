@@ -1,11 +1,12 @@
 // Instructions carried out on the registers of a process.
 ghost use mathlib.Core.Path.{_≡_};
 ghost use Prim.Native.Nat.{_%_, _<_};
-ghost use Rattle.rv32.specs.Execute.{reg-of, with-reg, stepped, finished, jumped, call-of, call-in, executed, performed, fresh, answered, Sound, Sound-effect, Waits};
+ghost use Rattle.instructions.specs.Decode.{Sound};
+ghost use Rattle.rv32.specs.Execute.{reg-of, with-reg, stepped, finished, jumped, call-of, call-in, executed, performed, fresh, answered, Sound-effect, Waits};
 use crate::compute::*;
 use crate::cpu::*;
-use crate::decoding::by_opcode;
-use crate::instruction::*;
+use instructions::Instruction;
+use instructions::decode;
 use turns::vocabulary::Call;
 
 // The call of a number and its arguments.
@@ -64,7 +65,7 @@ impl Cpu {
         ensures waits { λ r. ⌜ Waits r (now (self .entry)) (now (self .exit)) ⌝ }
         ensures aligned { λ _. ⌜ (now (self .entry) .pc % 4 ≡ 0 → now (self .exit) .pc % 4 ≡ 0) ⌝ }
     {
-        match by_opcode(word) {
+        match decode(word) {
             Some(instruction) => self.obey(instruction),
             None => Effect::Wrong,
         }

@@ -6,37 +6,34 @@ ghost use lib.ListN.{length};
 ghost use Rattle.bytes.specs.Rows.{over};
 ghost use Rattle.rv32.specs.Act.{load-size, loaded, store-size, stored, meets, core, shown, Rests, Meets};
 use crate::cpu::*;
-use crate::instruction::*;
 use bytes::half;
 use bytes::put_half;
 use bytes::put_word;
 use bytes::word;
+use instructions::LoadWidth;
+use instructions::StoreWidth;
 
-impl LoadWidth {
-    // How many bytes are loaded.
-    pub fn size(self) -> u32
-        ensures value { λ r. ⌜ r ≡ load-size self ⌝ }
-        ensures few { λ r. ⌜ 0 < r ⌝ ∗ ⌜ r ≤ 4 ⌝ }
-    {
-        match self {
-            LoadWidth::Byte | LoadWidth::ByteUnsigned => 1,
-            LoadWidth::Half | LoadWidth::HalfUnsigned => 2,
-            LoadWidth::Word => 4,
-        }
+// How many bytes are loaded.
+pub fn load_size(width: LoadWidth) -> u32
+    ensures value { λ r. ⌜ r ≡ load-size width ⌝ }
+    ensures few { λ r. ⌜ 0 < r ⌝ ∗ ⌜ r ≤ 4 ⌝ }
+{
+    match width {
+        LoadWidth::Byte | LoadWidth::ByteUnsigned => 1,
+        LoadWidth::Half | LoadWidth::HalfUnsigned => 2,
+        LoadWidth::Word => 4,
     }
 }
 
-impl StoreWidth {
-    // How many bytes are stored.
-    pub fn size(self) -> u32
-        ensures value { λ r. ⌜ r ≡ store-size self ⌝ }
-        ensures few { λ r. ⌜ 0 < r ⌝ ∗ ⌜ r ≤ 4 ⌝ }
-    {
-        match self {
-            StoreWidth::Byte => 1,
-            StoreWidth::Half => 2,
-            StoreWidth::Word => 4,
-        }
+// How many bytes are stored.
+pub fn store_size(width: StoreWidth) -> u32
+    ensures value { λ r. ⌜ r ≡ store-size width ⌝ }
+    ensures few { λ r. ⌜ 0 < r ⌝ ∗ ⌜ r ≤ 4 ⌝ }
+{
+    match width {
+        StoreWidth::Byte => 1,
+        StoreWidth::Half => 2,
+        StoreWidth::Word => 4,
     }
 }
 
@@ -87,7 +84,7 @@ pub fn act(cpu: &mut Cpu, memory: &[u8]) -> Action
     match cpu.execute(word(memory, cpu.pc as usize)) {
         Effect::Quiet => Action::Quiet,
         Effect::Load { width, rd, address } => {
-            if !within(memory, address, width.size()) {
+            if !within(memory, address, load_size(width)) {
                 return Action::Wrong;
             }
             cpu.finish(rd, load(memory, width, address as usize));
@@ -98,7 +95,7 @@ pub fn act(cpu: &mut Cpu, memory: &[u8]) -> Action
             address,
             value,
         } => {
-            if !within(memory, address, width.size()) {
+            if !within(memory, address, store_size(width)) {
                 return Action::Wrong;
             }
             Action::Store {

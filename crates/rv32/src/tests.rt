@@ -1,7 +1,7 @@
 // Words of the public encodings, and what they are.
-use crate::decode;
-use crate::encode;
-use crate::listing::InstructionDisplay;
+use instructions::InstructionDisplay;
+use instructions::decode;
+use instructions::encode;
 use std::test::*;
 
 // Each instruction, and each immediate at its least and its greatest value. Of a fence the last two have fields that mean nothing.

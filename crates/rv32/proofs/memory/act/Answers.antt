@@ -33,14 +33,14 @@ returns-in-Wrong c = record {
 }
 
 pub load-requires : need.load-requires
-load-requires c κs = record { within = rw (c .size .ensures .value) at (c .within-in-Load .ensures .inside (c .if-not-within-2 .left) .1) }
+load-requires c κs = record { within = rw (c .load-size .ensures .value) at (c .within-in-Load .ensures .inside (c .if-not-within-2 .left) .1) }
 
 pub returns-then-not-within-2 : need.returns-then-not-within-2
 returns-then-not-within-2 c = record {
   waits = tt;
   meets = tt;
   value = sym (fetched _ _ _ _ _ (sym (c .within .ensures .value) ∙ c .if-not-within .left) (c .word .ensures) (c .in-Load .ensures tt .value) (c .in-Load .ensures tt .after)
-      ∙ not-loaded _ _ _ _ _ (rw (c .size .ensures .value) at (sym (c .within-in-Load .ensures .value) ∙ c .if-not-within-2 .taken)));
+      ∙ not-loaded _ _ _ _ _ (rw (c .load-size .ensures .value) at (sym (c .within-in-Load .ensures .value) ∙ c .if-not-within-2 .taken)));
 }
 
 pub returns-else-not-within-2 : need.returns-else-not-within-2
@@ -49,7 +49,7 @@ returns-else-not-within-2 c = record {
   meets = tt;
   value = ap quiet (c .finish .ensures ∙ ap (finished (c .execute .last .self) (c .in-Load .rd)) (c .load .ensures))
       ∙ sym (fetched _ _ _ _ _ (sym (c .within .ensures .value) ∙ c .if-not-within .left) (c .word .ensures) (c .in-Load .ensures tt .value) (c .in-Load .ensures tt .after)
-      ∙ has-loaded _ _ _ _ _ (rw (c .size .ensures .value) at (sym (c .within-in-Load .ensures .value) ∙ c .if-not-within-2 .left)));
+      ∙ has-loaded _ _ _ _ _ (rw (c .load-size .ensures .value) at (sym (c .within-in-Load .ensures .value) ∙ c .if-not-within-2 .left)));
 }
 
 pub returns-then-not-within-3 : need.returns-then-not-within-3
@@ -57,13 +57,13 @@ returns-then-not-within-3 c = record {
   waits = tt;
   meets = tt;
   value = sym (fetched _ _ _ _ _ (sym (c .within .ensures .value) ∙ c .if-not-within .left) (c .word .ensures) (c .in-Store .ensures tt .value) (c .in-Store .ensures tt .after)
-      ∙ not-stored _ _ _ _ _ (rw (c .size-in-Store .ensures .value) at (sym (c .within-in-Store .ensures .value) ∙ c .if-not-within-3 .taken)));
+      ∙ not-stored _ _ _ _ _ (rw (c .store-size .ensures .value) at (sym (c .within-in-Store .ensures .value) ∙ c .if-not-within-3 .taken)));
 }
 
 pub returns-else-not-within-3 : need.returns-else-not-within-3
 returns-else-not-within-3 c = record {
   waits = tt;
-  meets = rw (c .size-in-Store .ensures .value) at (c .within-in-Store .ensures .inside (c .if-not-within-3 .left));
+  meets = rw (c .store-size .ensures .value) at (c .within-in-Store .ensures .inside (c .if-not-within-3 .left));
   value = sym (fetched _ _ _ _ _ (sym (c .within .ensures .value) ∙ c .if-not-within .left) (c .word .ensures) (c .in-Store .ensures tt .value) (c .in-Store .ensures tt .after)
-      ∙ has-stored _ _ _ _ _ (rw (c .size-in-Store .ensures .value) at (sym (c .within-in-Store .ensures .value) ∙ c .if-not-within-3 .left)));
+      ∙ has-stored _ _ _ _ _ (rw (c .store-size .ensures .value) at (sym (c .within-in-Store .ensures .value) ∙ c .if-not-within-3 .left)));
 }

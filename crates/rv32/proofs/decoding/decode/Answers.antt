@@ -1,9 +1,0 @@
-use Prim.Native.Nat.{_<_, _^_}
-use native.Mathlib.Omega.{arith}
-use Rattle.rv32.proofs.Inverse.{encode-back}
-use Rattle.rv32.proofs.decoding.decode.Needs as need
-
-pub returns : need.returns
-returns c =
-    let h : c .args .word < 2 ^ 32 = omega arith in
-    record { value = c .by-opcode .ensures .value; back = rw (c .by-opcode .ensures .value) (encode-back (c .args .word) h) }
