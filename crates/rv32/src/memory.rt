@@ -69,7 +69,8 @@ fn within(memory: &[u8], address: u32, size: u32) -> bool
     ensures value { λ r. ⌜ r ≡ meets (length (now (memory .entry))) address size ⌝ }
     ensures inside { λ r. ⌜ (r ≡ true → (address % size ≡ 0) × (address + size ≤ length (now (memory .entry)))) ⌝ }
 {
-    address % size == 0 && address as usize + size as usize <= memory.len()
+    let end = address as usize + size as usize;
+    address % size == 0 && end <= memory.len()
 }
 
 // The instruction at hand, but for the bytes of a store and the answer of a call. After a wrong one nobody looks at the registers again.
