@@ -1,9 +1,9 @@
 -- What it takes for an instruction to be well-formed, as facts about numbers.
-use Prim.Native.Nat.{ℕ, _-_, _%_, _^_, _<_}
+use Prim.Native.Nat.{ℕ, _-_, _%_, _<_}
 use mathlib.Core.Path.{_≡_, refl}
-use mathlib.Core.Bool.{Bool, true, false, _&&_}
+use mathlib.Core.Bool.{Bool, true, _&&_}
 use native.Mathlib.Omega.{arith}
-use lib.Dec.{eqb, ltb}
+use lib.Dec.{ltb}
 use lib.IntN.{ℤ, pos, negsuc}
 use lib.Signed.{leZ, ltZ, _≤ℤ_, _<ℤ_}
 use Rattle.std.proofs.shelf.Tests.{false≢true, and-parts, and-from, ltb-true, lt-ltb, eqb-true, eq-eqb}
@@ -13,7 +13,7 @@ use Rattle.instructions.specs.declared.instruction.Operation.the-variants.{Add
 use Rattle.instructions.specs.declared.instruction.Instruction.{Instruction}
 use Rattle.instructions.specs.declared.instruction.Instruction.the-variants.{Lui, Auipc, Jal, Jalr, Branch, Load, Store, OpImm, Op, Fence, Ecall}
 use Rattle.instructions.specs.Fields.{word-of}
-use Rattle.instructions.specs.Encode.{between, short, even, immediate-fits, formed}
+use Rattle.instructions.specs.Encode.{between, even, immediate-fits, formed}
 
 -- from - h to h - 1
 abbrev pub Within : ℕ → ℤ → Type 0

@@ -1,12 +1,12 @@
 -- Decoding and encoding are inverse to one another.
-use Prim.Native.Nat.{ℕ, _+_, _-_, _*_, _/_, _%_, _^_, _<_, _≤_}
+use Prim.Native.Nat.{ℕ, _+_, _*_, _/_, _%_, _^_, _<_}
 use mathlib.Core.Path.{_≡_, refl, sym, ap, subst, _∙_}
 use mathlib.Core.Bool.{Bool, true, false, cond}
 use native.Mathlib.Omega.{arith}
-use lib.Dec.{eqb, ltb}
+use lib.Dec.{eqb}
 use lib.Signed.{_≤ℤ_, _<ℤ_}
-use Rattle.std.proofs.shelf.Tests.{true≢false, false≢true, cond-both, eqb-true}
-use lib.IntN.{ℤ, pos, negsuc, _-ℤ_}
+use Rattle.std.proofs.shelf.Tests.{false≢true, cond-both, eqb-true}
+use lib.IntN.{ℤ, pos, negsuc}
 use Rattle.std.specs.Options.{Cases, mapped}
 use Rattle.std.proofs.shelf.Signed.{ints}
 use Rattle.std.proofs.shelf.Ways.{tells}
@@ -24,8 +24,8 @@ use Rattle.instructions.specs.declared.instruction.Instruction.{Instruction}
 use Rattle.instructions.specs.declared.instruction.Instruction.the-variants.{Lui, Auipc, Jal, Jalr, Branch, Load, Store, OpImm, Op, Fence, Ecall}
 use Rattle.instructions.specs.Fields.{opcode-of, rd-of, funct3-of, rs1-of, rs2-of, funct7-of, fm-of, pred-of, succ-of, upper-of, signed-of, word-of, imm-i, imm-s, imm-b, imm-j, bits-s, bits-b, bits-j}
 use Rattle.instructions.specs.Decode.{by-funct3, decode-of, op-imm-of, condition-of, load-width-of, store-width-of, operation-of}
-use Rattle.instructions.proofs.Formed.{Within, Even, Amount, Formed, formed-true, true-formed}
-use Rattle.instructions.specs.Encode.{encoded, formed, encode-of, Inverse, low, packed, packed-u, packed-i, packed-s, packed-b, packed-j, condition-code, load-code, store-code, operation-code, operation-high, shifts}
+use Rattle.instructions.proofs.Formed.{Within, Amount, Formed, formed-true, true-formed}
+use Rattle.instructions.specs.Encode.{encoded, formed, encode-of, Inverse, low, packed, packed-i, condition-code, load-code, store-code, operation-code, operation-high, shifts}
 
 back-i : (z : ℤ) (x : ℕ) → Within 2048 z → x ≡ low z 4096 → signed-of 2048 x ≡ z
 back-i z x h e = grind (arith, ints)

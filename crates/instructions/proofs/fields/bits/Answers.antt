@@ -1,7 +1,6 @@
-use Prim.Native.Nat.{_*_, _/_, _%_, _^_, _-_, _<_}
-use mathlib.Core.Path.{_∙_, ap, _≡_}
+use Prim.Native.Nat.{_/_, _^_, _<_}
 use native.Mathlib.Omega.{arith}
-use lib.Bits.{bitAnd, and-mask}
+use lib.Bits.{and-mask}
 use Rattle.std.proofs.shelf.Bits.{one-shl, pow-pos}
 use Rattle.instructions.proofs.fields.bits.Needs as need
 
