@@ -1,13 +1,13 @@
 -- What the lowest place is. Assumes nothing.
-use mathlib.Core.Path.{_≡_, refl}
+use mathlib.Core.Path.{_≡_, refl, ap, _∙_}
 use mathlib.Core.Logic.{_⊎_, inl, inr, ⊎-elim}
 use mathlib.Core.Bool.{Bool, true, false}
-use Prim.Native.Nat.{ℕ, zero, suc, _+_, _≤_, _<_}
+use Prim.Native.Nat.{ℕ, zero, suc, _+_, _-_, _≤_, _<_}
 use native.Mathlib.Omega.{arith}
 use lib.Dec.{ltb}
 use Rattle.std.proofs.shelf.Tests.{cases-eq, ltb-true, ltb-false, lt-ltb, le-ltb, false≢true, both-ways, cases-bool}
 use Rattle.bytes.specs.Rows.{lowest-from, lowest, some, pick}
-use Rattle.bytes.proofs.Tests.{pick-both}
+use Rattle.bytes.proofs.Tests.{pick-both, pick-true, pick-false}
 
 pub lowest-from-le : (test : ℕ → Bool) (i n : ℕ) → lowest-from test i n ≤ i + n
 unfolding lowest-from
@@ -52,3 +52,24 @@ some-at test n k h t = go (cases-bool (some test n))
 -- where the test holds nowhere below n, not even somewhere
 pub some-none : (test : ℕ → Bool) (n k : ℕ) → k < n → some test n ≡ false → test k ≡ false
 some-none test n k h e = lowest-below test n k (omega (arith, ltb-false _ _ e))
+
+-- a search, place by place: here; not here, so behind; nowhere
+lowest-first : (test : ℕ → Bool) (i m : ℕ) → 0 < m → test i ≡ true → lowest-from test i m ≡ i
+unfolding lowest-from
+lowest-first test i zero l t = absurd (omega arith)
+lowest-first test i (suc m) l t = pick-true _ _ _ t
+
+lowest-later : (test : ℕ → Bool) (i m k : ℕ) → m ≡ suc k → test i ≡ false → lowest-from test i m ≡ lowest-from test (suc i) k
+unfolding lowest-from
+lowest-later test i m k e t = rw e (pick-false _ _ _ t)
+
+pub lowest-here : (test : ℕ → Bool) (i n : ℕ) → i < n → test i ≡ true → lowest-from test i (n - i) ≡ i
+lowest-here test i n h t = lowest-first test i (n - i) (omega arith) t
+
+pub lowest-next : (test : ℕ → Bool) (i n : ℕ) → i < n → test i ≡ false → lowest-from test i (n - i) ≡ lowest-from test (i + 1) (n - (i + 1))
+lowest-next test i n h t =
+    let e : suc i ≡ i + 1 = omega arith in lowest-later test i (n - i) (n - (i + 1)) (omega arith) t ∙ ap (λ k. lowest-from test k (n - (i + 1))) e
+
+pub lowest-end : (test : ℕ → Bool) (i n : ℕ) → n ≤ i → lowest-from test i (n - i) ≡ i
+unfolding lowest-from
+lowest-end test i n h = let e : n - i ≡ 0 = omega arith in rw e

@@ -56,3 +56,22 @@ word-over-out xs a ys k l h = rw (same k (apart k (omega arith) (omega arith) h)
     apart : (j : ℕ) → k ≤ j → j < k + 4 → (k + 4 ≤ a) ⊎ (a + length ys ≤ k) → (j < a) ⊎ (a + length ys ≤ j)
     apart j s t (inl o) = inl (omega arith)
     apart j s t (inr o) = inr (omega arith)
+
+-- and bytes are the digits of their number
+low-digit : (a m : ℕ) → a < 256 → (a + m * 256) % 256 ≡ a
+low-digit a m h = omega arith
+
+high-digits : (a m : ℕ) → a < 256 → (a + m * 256) / 256 ≡ m
+high-digits a m h = omega arith
+
+pub word-back : (a b c d : ℕ) → a < 256 → b < 256 → c < 256 → d < 256 → word-bytes (a + b * 256 + c * 65536 + d * 16777216) ≡ a ∷ b ∷ c ∷ d ∷ []
+word-back a b c d ha hb hc hd =
+    let x : a + b * 256 + c * 65536 + d * 16777216 ≡ a + (b + (c + d * 256) * 256) * 256 = omega arith in
+    let u : (a + (b + (c + d * 256) * 256) * 256) / 256 ≡ b + (c + d * 256) * 256 = high-digits a (b + (c + d * 256) * 256) ha in
+    let v : (a + (b + (c + d * 256) * 256) * 256) / 65536 ≡ c + d * 256 = sym (shr-shr (a + (b + (c + d * 256) * 256) * 256) 8 8) ∙ ap (λ n. n / 256) u ∙ high-digits b (c + d * 256) hb in
+    let w : (a + (b + (c + d * 256) * 256) * 256) / 16777216 ≡ d = sym (shr-shr (a + (b + (c + d * 256) * 256) * 256) 16 8) ∙ ap (λ n. n / 256) v ∙ high-digits c d hc in
+    let e : (a + (b + (c + d * 256) * 256) * 256) % 256 ≡ a = low-digit a (b + (c + d * 256) * 256) ha in
+    let f : (b + (c + d * 256) * 256) % 256 ≡ b = low-digit b (c + d * 256) hb in
+    let g : (c + d * 256) % 256 ≡ c = low-digit c d hc in
+    let h : d % 256 ≡ d = omega arith in
+    rw x (rw (e, u, v, w, f, g, h) refl)

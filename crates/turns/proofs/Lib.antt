@@ -10,3 +10,4 @@ pub mod Shapes
 pub mod Holds
 pub mod Within
 pub mod Lives
+pub mod Computed

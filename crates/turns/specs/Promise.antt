@@ -74,87 +74,124 @@ module _ {Cpu : Type 0} (core : Core Cpu) where
 
 -- A SYSTEM BY WHAT ITS FUNCTIONS' CONTRACTS SAY
 
--- S is a system's state. holds z d fs: a disc d of sizes z is taken, and holds the files fs. starts z d s: from a disc d it comes up as s. happens z s e t: an event e
--- takes it from s to t. shows and first: what its screens show, and the state of its process 0. disc: its disc. writes: what its last event wrote, or its start
-module _ {Cpu : Type 0} (core : Core Cpu) {S : Type 0} (holds : Sizes → List (List ℕ) → List (List ℕ) → Type 0) (starts : Sizes → List (List ℕ) → S → Type 0)
-    (happens : Sizes → S → Event → S → Type 0) (shows : S → List (List ℕ)) (first : S → State) (disc : S → List (List ℕ)) (writes : S → List (ℕ × List ℕ)) where
+-- S is the type of its states
+pub record System (Cpu S : Type 0) : Type 1 where
+  pub core : Core Cpu
+  -- a disc of these sizes is taken, and holds these files
+  pub holds : Sizes → List (List ℕ) → List (List ℕ) → Type 0
+  -- from this disc it comes up as this
+  pub starts : Sizes → List (List ℕ) → S → Type 0
+  -- an event takes it from this state to that
+  pub happens : Sizes → S → Event → S → Type 0
+  -- what its screens show, and the state of its process 0
+  pub shows : S → List (List ℕ)
+  pub first : S → State
+  -- its disc, and what its last event wrote, or its start
+  pub disc : S → List (List ℕ)
+  pub writes : S → List (ℕ × List ℕ)
+  -- it is like this world
+  pub like : Sizes → S → World Cpu → Type 0
+
+module _ {Cpu S : Type 0} (y : System Cpu S) where
   -- a life of the system
-  abbrev pub life : List Event → S → Life
-  life es s = record { events = es; shown = shows s; ticks = count-ticks es; first = first s }
+  unfoldable pub life-in : List Event → S → Life
+  life-in es s = record { events = es; shown = y .shows s; ticks = count-ticks es; first = y .first s }
 
   -- from s by events to u; b is the disc before the last of them, or before the start if there are none
   pub data Goes (z : Sizes) : List (List ℕ) → S → List Event → List (List ℕ) → S → Type 0 where
     nothing : (d : List (List ℕ)) (s : S) → Goes z d s [] d s
-    onward : (d b : List (List ℕ)) (s t u : S) (e : Event) (es : List Event) → happens z s e t → Goes z (disc s) t es b u → Goes z d s (e ∷ es) b u
+    onward : (d b : List (List ℕ)) (s t u : S) (e : Event) (es : List Event) → y .happens z s e t → Goes z (y .disc s) t es b u → Goes z d s (e ∷ es) b u
 
-  -- One life of the system after another, from disc to disc. What a cut leaves is exactly this: the disc before the last event, with that event's writes torn
+  -- what a cut leaves in the last event of a life, or in its start: the disc before it, with its writes torn
+  unfoldable pub cut-short : List (List ℕ) → S → Cut → List (List ℕ)
+  cut-short b u c = torn b (y .writes u) (c .done) (c .block)
+
+  -- one life of the system after another, from disc to disc
   pub data Row (z : Sizes) : List (List ℕ) → List Life → List (List ℕ) → Type 0 where
     none : (d : List (List ℕ)) → Row z d [] d
-    ends : (d b : List (List ℕ)) (s u : S) (es : List Event) → starts z d s → Goes z d s es b u → Row z d (life es u ∷ []) (disc u)
-    cut : (d b e : List (List ℕ)) (s u : S) (es : List Event) (rest : List Life) → starts z d s → Goes z d s es b u → (c : Cut) →
-        Row z (torn b (writes u) (c .done) (c .block)) rest e → Row z d (life es u ∷ rest) e
+    ends : (d b : List (List ℕ)) (s u : S) (es : List Event) → y .starts z d s → Goes z d s es b u → Row z d (life-in es u ∷ []) (y .disc u)
+    cut : (d b e : List (List ℕ)) (s u : S) (es : List Event) (rest : List Life) → y .starts z d s → Goes z d s es b u → (c : Cut) → Row z (cut-short b u c) rest e →
+        Row z d (life-in es u ∷ rest) e
 
-  -- WHAT A START AND ONE EVENT OWE, by a relation `like` of the system's states to worlds
-  pub record Owed (like : Sizes → S → World Cpu → Type 0) : Type 0 where
-    -- it comes up like the world at its start, with the files that were on the disc, whatever its writes came to
-    pub start-like : (z : Sizes) (d fs : List (List ℕ)) (s : S) → holds z d fs → starts z d s → like z s (begin core z fs)
-    pub start-disc : (z : Sizes) (d fs : List (List ℕ)) (s : S) → holds z d fs → starts z d s → holds z (disc s) fs
-    pub start-cut : (z : Sizes) (d fs : List (List ℕ)) (s : S) (c : Cut) → holds z d fs → starts z d s → holds z (torn d (writes s) (c .done) (c .block)) fs
+  -- WHAT A START AND ONE EVENT OWE
+  pub record Owed : Type 0 where
+    -- it comes up like the world at its start, and the disc holds the files that it held, also if a cut meets it
+    pub start-like : (z : Sizes) (d fs : List (List ℕ)) (s : S) → y .holds z d fs → y .starts z d s → y .like z s (begin (y .core) z fs)
+    pub start-disc : (z : Sizes) (d fs : List (List ℕ)) (s : S) → y .holds z d fs → y .starts z d s → y .holds z (y .disc s) fs
+    pub start-cut : (z : Sizes) (d fs : List (List ℕ)) (s : S) (c : Cut) → y .holds z d fs → y .starts z d s → y .holds z (cut-short d s c) fs
     -- an event does what it does in the world
-    pub event-like : (z : Sizes) (s t : S) (w : World Cpu) (e : Event) → like z s w → happens z s e t → like z t (event core z w e)
-    -- its disc then holds the files that it held, if it was no save, or those of the world
-    pub event-disc : (z : Sizes) (s t : S) (w : World Cpu) (fs : List (List ℕ)) (e : Event) → like z s w → holds z (disc s) fs → happens z s e t →
-        (holds z (disc t) fs × (saves core w e ≡ false)) ⊎ holds z (disc t) (event core z w e .files)
+    pub event-like : (z : Sizes) (s t : S) (w : World Cpu) (e : Event) → y .like z s w → y .happens z s e t → y .like z t (event (y .core) z w e)
+    -- the disc then holds the files that it held, if it was no save, or those of the world
+    pub event-disc : (z : Sizes) (s t : S) (w : World Cpu) (fs : List (List ℕ)) (e : Event) → y .like z s w → y .holds z (y .disc s) fs → y .happens z s e t →
+        (y .holds z (y .disc t) fs × (saves (y .core) w e ≡ false)) ⊎ y .holds z (y .disc t) (event (y .core) z w e .files)
     -- and if a cut meets it, one or the other
-    pub event-cut : (z : Sizes) (s t : S) (w : World Cpu) (fs : List (List ℕ)) (e : Event) (c : Cut) → like z s w → holds z (disc s) fs → happens z s e t →
-        holds z (torn (disc s) (writes t) (c .done) (c .block)) fs ⊎ holds z (torn (disc s) (writes t) (c .done) (c .block)) (event core z w e .files)
-    -- what can be seen
-    pub same-shown : (z : Sizes) (s : S) (w : World Cpu) → like z s w → shows s ≡ w .shown
-    pub same-first : (z : Sizes) (s : S) (w : World Cpu) → like z s w → first s ≡ process core w 0 .state
+    pub event-cut : (z : Sizes) (s t : S) (w : World Cpu) (fs : List (List ℕ)) (e : Event) (c : Cut) → y .like z s w → y .holds z (y .disc s) fs → y .happens z s e t →
+        y .holds z (cut-short (y .disc s) t c) fs ⊎ y .holds z (cut-short (y .disc s) t c) (event (y .core) z w e .files)
+    -- what can be seen is what the world has
+    pub same-shown : (z : Sizes) (s : S) (w : World Cpu) → y .like z s w → y .shows s ≡ w .shown
+    pub same-first : (z : Sizes) (s : S) (w : World Cpu) → y .like z s w → y .first s ≡ process (y .core) w 0 .state
 
-  -- THE MAIN PROMISE: every row of the system's lives from a disc that is taken is a row of the world's lives from its files, and each disc in it is taken
+  -- THE MAIN PROMISE: every row of the system's lives from a disc that is taken is a row of the world's lives from its files, and the disc that is left is taken
   abbrev pub Keeps-promise : Type 0
-  Keeps-promise = (z : Sizes) (d e fs : List (List ℕ)) (ls : List Life) → holds z d fs → Row z d ls e → (gs : List (List ℕ)) × holds z e gs × Lives core z fs ls gs
+  Keeps-promise = (z : Sizes) (d e fs : List (List ℕ)) (ls : List Life) → y .holds z d fs → Row z d ls e → (gs : List (List ℕ)) × y .holds z e gs × Lives (y .core) z fs ls gs
 
 -- A SYSTEM BY FUNCTIONS
 
-module _ {Cpu : Type 0} (core : Core Cpu) {S : Type 0} (holds : Sizes → List (List ℕ) → List (List ℕ) → Type 0) (start : Sizes → List (List ℕ) → S)
-    (happens : Sizes → S → Event → S) (shows : S → List (List ℕ)) (first : S → State) (disc : S → List (List ℕ)) (writes : S → List (ℕ × List ℕ)) where
+pub record Functions (Cpu S : Type 0) : Type 1 where
+  pub core : Core Cpu
+  pub holds : Sizes → List (List ℕ) → List (List ℕ) → Type 0
+  pub start : Sizes → List (List ℕ) → S
+  pub happens : Sizes → S → Event → S
+  pub shows : S → List (List ℕ)
+  pub first : S → State
+  pub disc : S → List (List ℕ)
+  pub writes : S → List (ℕ × List ℕ)
+  pub like : Sizes → S → World Cpu → Type 0
+
+-- it is a system by what its functions leave
+abbrev pub system-of : {Cpu S : Type 0} → Functions Cpu S → System Cpu S
+system-of f =
+    record {
+      core = f .core;
+      holds = f .holds;
+      starts = λ z d s. s ≡ f .start z d;
+      happens = λ z s e t. t ≡ f .happens z s e;
+      shows = f .shows;
+      first = f .first;
+      disc = f .disc;
+      writes = f .writes;
+      like = f .like;
+    }
+
+module _ {Cpu S : Type 0} (f : Functions Cpu S) where
   -- the system after a row of events, with the disc before the last of them
   unfoldable pub goes : Sizes → List (List ℕ) → S → List Event → List (List ℕ) × S
   goes z d s [] = (d, s)
-  goes z d s (e ∷ es) = goes z (disc s) (happens z s e) es
+  goes z d s (e ∷ es) = goes z (f .disc s) (f .happens z s e) es
 
   -- what a cut leaves of a life
   unfoldable pub left-by : Sizes → List (List ℕ) → List Event → Cut → List (List ℕ)
-  left-by z d es c = torn (goes z d (start z d) es .0) (writes (goes z d (start z d) es .1)) (c .done) (c .block)
+  left-by z d es c = cut-short (system-of f) (goes z d (f .start z d) es .0) (goes z d (f .start z d) es .1) c
 
   -- the lives of the system, one after another, each ended by a cut
   unfoldable pub lives-in : Sizes → List (List ℕ) → List (List Event × Cut) → List Life
   lives-in z d [] = []
-  lives-in z d (l ∷ ls) =
-      record {
-        events = l .0;
-        shown = shows (goes z d (start z d) (l .0) .1);
-        ticks = count-ticks (l .0);
-        first = first (goes z d (start z d) (l .0) .1);
-      }
-      ∷ lives-in z (left-by z d (l .0) (l .1)) ls
+  lives-in z d (l ∷ ls) = life-in (system-of f) (l .0) (goes z d (f .start z d) (l .0) .1) ∷ lives-in z (left-by z d (l .0) (l .1)) ls
 
   -- in every row of lives it shows what the world shows
   abbrev pub Same-shown : Type 0
-  Same-shown = (z : Sizes) (d fs : List (List ℕ)) (ls : List (List Event × Cut)) → holds z d fs → (gs : List (List ℕ)) × Lives core z fs (lives-in z d ls) gs
+  Same-shown = (z : Sizes) (d fs : List (List ℕ)) (ls : List (List Event × Cut)) → f .holds z d fs → (gs : List (List ℕ)) × Lives (f .core) z fs (lives-in z d ls) gs
 
   -- what a cut leaves is a disc that is taken
   abbrev pub Comes-up : Type 0
-  Comes-up = (z : Sizes) (d fs : List (List ℕ)) (es : List Event) (c : Cut) → holds z d fs → (gs : List (List ℕ)) × holds z (left-by z d es c) gs
+  Comes-up = (z : Sizes) (d fs : List (List ℕ)) (es : List Event) (c : Cut) → f .holds z d fs → (gs : List (List ℕ)) × f .holds z (left-by z d es c) gs
 
   -- the disc changes by writes only
   abbrev pub By-writes : Type 0
   By-writes =
-      ((z : Sizes) (d : List (List ℕ)) → disc (start z d) ≡ written d (writes (start z d)))
-      × ((z : Sizes) (s : S) (e : Event) → disc (happens z s e) ≡ written (disc s) (writes (happens z s e)))
+      ((z : Sizes) (d : List (List ℕ)) → f .disc (f .start z d) ≡ written d (f .writes (f .start z d)))
+      × ((z : Sizes) (s : S) (e : Event) → f .disc (f .happens z s e) ≡ written (f .disc s) (f .writes (f .happens z s e)))
 
   -- and for every list of files that fits there is a disc
   abbrev pub Holds-all : Type 0
-  Holds-all = (z : Sizes) (fs : List (List ℕ)) → Fits z fs → (d : List (List ℕ)) × holds z d fs
+  Holds-all = (z : Sizes) (fs : List (List ℕ)) → Fits z fs → (d : List (List ℕ)) × f .holds z d fs

@@ -1,4 +1,5 @@
 // What holds of the world, for every core: C is the type of its registers. Each function stands for a theorem, its contract; there is nothing to run.
+ghost use Rattle.turns.specs.Corners.{Corners};
 ghost use Rattle.turns.specs.Theorems.{Stays-shown, Sure-is-past, In-parts, Tick-by-tick, Ends-with-first, Idle-rounds, Apart, By-handle, In-order, First-in-first-out, Turn-comes, Keeps-shape, Keeps-bytes};
 
 // What is on a screen stays, and more comes behind it.
@@ -64,4 +65,9 @@ pub fn shape_is_kept<C>()
 // In worlds that come about by a core that stores bytes, all is bytes.
 pub fn bytes_stay_bytes<C>()
     ensures { λ _. ⌜ Keeps-bytes C ⌝ }
+{}
+
+// The corners of the calls, each computed on a small world.
+pub fn corners_are_so()
+    ensures { λ _. ⌜ Corners ⌝ }
 {}

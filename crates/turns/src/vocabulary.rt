@@ -84,3 +84,12 @@ pub enum Event {
     Tick,
     Key(u8, u8),
 }
+
+// What is fed to the machine: a number of ticks; a byte typed at a screen; or a power cut, after so many writes to the disc of the last event, with the byte that
+// fills the block of the next.
+#[derive(Clone, Copy)]
+pub enum Input {
+    Ticks(u32),
+    Key(u8, u8),
+    Cut(u32, u8),
+}
