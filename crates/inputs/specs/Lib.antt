@@ -4,3 +4,4 @@ pub mod Lines
 pub mod Names
 pub mod Lists
 pub mod Scripts
+pub mod Refusals

@@ -4,5 +4,6 @@ pub mod lists;
 pub mod loading;
 pub mod messages;
 pub mod names;
+pub mod refusals;
 pub mod scripts;
 mod seeking;

@@ -11,7 +11,10 @@ use crate::lists::Put;
 use crate::lists::read_list;
 use crate::messages::ReasonDisplay;
 use crate::messages::SizeNameDisplay;
+use crate::messages::WrongDisplay;
 use crate::names::SizeName;
+use crate::scripts::ScriptError;
+use crate::scripts::read_script;
 use disc::check::first_out;
 use std::fs;
 use std::path::Path;
@@ -155,4 +158,23 @@ pub fn load_list(rt: &LibcRuntime, list: &str) -> Result<Loaded, Told>
         sizes: found.sizes,
         files,
     })
+}
+
+// A row of events: the bytes of a file, or what its text says if its name ends in `.txt`.
+pub fn load_events(rt: &LibcRuntime, path: &str) -> Result<Vec<u8>, Told> {
+    let Ok(bytes) = fs::read(rt, path) else {
+        let _ = eprintln!(rt, "{path} cannot be read");
+        return Err(Told);
+    };
+    if !path.ends_with(".txt") {
+        return Ok(bytes);
+    }
+    match read_script(rt.alloc(), &bytes) {
+        Ok(events) => Ok(events),
+        Err(ScriptError::Line(line, wrong)) => {
+            let _ = eprintln!(rt, "{path}:{line}: {wrong}");
+            Err(Told)
+        }
+        Err(ScriptError::NoMemory) => Err(tell_memory(rt)),
+    }
 }

@@ -56,8 +56,8 @@ impl Cpu {
         self.finish(10, value);
     }
 
-    // Carries a word out. It goes through the decoded instruction, which the assembler and a listing use too: straight from the word was measured to be but 2 %
-    // faster. The registers are changed in place; a copy kept for a wrong instruction would make it three times slower.
+    // Carries a word out. It goes through the decoded instruction, so that one decoder serves the machine, the assembler and listings. The registers are changed
+    // in place: none are kept aside for a wrong instruction, after which nobody looks at them.
     pub fn execute(&mut self, word: u32) -> Effect
         ensures value { λ r. ⌜ r ≡ performed word (now (self .entry)) .0 ⌝ }
         ensures after { λ _. ⌜ now (self .exit) ≡ performed word (now (self .entry)) .1 ⌝ }

@@ -16,6 +16,3 @@ pub use memory::store;
 pub use memory::store_size;
 pub use theorems::programs_stand;
 pub use theorems::steps_stand;
-
-#[cfg(test)]
-mod tests;

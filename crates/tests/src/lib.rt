@@ -2,6 +2,8 @@
 #[cfg(test)]
 mod inputs_tests;
 #[cfg(test)]
+mod instructions_tests;
+#[cfg(test)]
 mod paging_tests;
 #[cfg(test)]
 mod queues_tests;
