@@ -4,3 +4,5 @@ pub mod check;
 pub mod format;
 pub mod layout;
 pub mod read;
+#[cfg(test)]
+mod tests;
