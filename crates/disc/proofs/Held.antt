@@ -94,3 +94,7 @@ if-holds z xs p hs fs e k h f l =
 pub count-if : (z : Sizes) (d : Disc) (fs : List (List ℕ)) → Holds z d fs → length fs ≡ z .files
 unfolding files-on files-in
 count-if z d fs k = ap length (sym (k .files)) ∙ length-map-counting (file-in (plan-of z) (current-header (plan-of z) d) d) 0 (z .files)
+
+-- a stretch of one list is that of an equal one
+pub stretch-as : (out file held : List ℕ) (n from : ℕ) → out ≡ take n (drop from file) → file ≡ held → out ≡ take n (drop from held)
+stretch-as out file held n from e h = e ∙ ap (λ (x : List ℕ). take n (drop from x)) h
