@@ -55,3 +55,7 @@ pub record Laid (z : Sizes) (p : Plan) (fs : List (List ℕ)) (i : ℕ) (xs : Li
 -- EVERY LIST OF FILES that fits has a disc
 abbrev pub Every-list : Type 0
 Every-list = (z : Sizes) (fs : List (List ℕ)) → Fits z fs → (d : Disc) × Holds z d fs
+
+-- and what a disc holds fits
+abbrev pub Held-fits : Type 0
+Held-fits = (z : Sizes) (d : Disc) (fs : List (List ℕ)) → Holds z d fs → Fits z fs
