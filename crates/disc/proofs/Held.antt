@@ -1,16 +1,22 @@
 -- The files that a taken disc holds, as the code reads them. Assumes nothing.
 use mathlib.Core.Path.{_≡_, refl, sym, ap, subst, _∙_}
 use mathlib.Core.List.{List, [], map}
-use Prim.Native.Nat.{ℕ, _+_, _-_, _*_, _/_, _≤_, _<_}
+use mathlib.Core.Logic.{⊎-elim}
+use Prim.Native.Nat.{ℕ, zero, suc, _+_, _-_, _*_, _/_, _≤_, _<_}
 use native.Mathlib.Omega.{arith}
 use lib.ListN.{length, getD, take, drop}
 use Rattle.std.specs.Iters.{counting}
-use Rattle.std.proofs.shelf.Lists.{ext-getD, length-take, length-drop, getD-take, getD-drop}
+use Rattle.std.specs.Joined.{joined}
+use Rattle.std.proofs.shelf.Lists.{ext-getD, length-take, length-drop, getD-take, getD-drop, getD-past}
+use Rattle.std.proofs.shelf.Tests.{cases-lt}
+use Rattle.bytes.specs.Rows.{Bytes}
+use Rattle.bytes.proofs.Over.{bytes-take, bytes-append}
 use Rattle.std.proofs.shelf.Counted.{getD-map-counting, length-map-counting, fill-by-all}
 use Rattle.turns.specs.declared.vocabulary.Sizes.{Sizes}
-use Rattle.disc.specs.Blocks.{Disc, blocks}
-use Rattle.disc.specs.Layout.{Header, plan-of, room, current-header, length-in, file-in, files-in, files-on, Fit, Sound}
+use Rattle.disc.specs.Blocks.{Disc, at, blocks}
+use Rattle.disc.specs.Layout.{Header, plan-of, place, room, current-header, length-in, copy-in, cell, file-in, files-in, files-on, Fit, Sound}
 use Rattle.disc.specs.Check.{Taken, Holds}
+use Rattle.disc.specs.Format.{Held-fits}
 use Rattle.disc.specs.declared.layout.Plan.{Plan}
 use Rattle.disc.proofs.Cuts.{length-blocks}
 use Rattle.disc.proofs.Places.{fits, file-length}
@@ -94,3 +100,43 @@ if-holds z xs p hs fs e k h f l =
 pub count-if : (z : Sizes) (d : Disc) (fs : List (List ℕ)) → Holds z d fs → length fs ≡ z .files
 unfolding files-on files-in
 count-if z d fs k = ap length (sym (k .files)) ∙ length-map-counting (file-in (plan-of z) (current-header (plan-of z) d) d) 0 (z .files)
+
+-- a stretch of one list is that of an equal one
+pub stretch-as : (out file held : List ℕ) (n from : ℕ) → out ≡ take n (drop from file) → file ≡ held → out ≡ take n (drop from held)
+stretch-as out file held n from e h = e ∙ ap (λ (x : List ℕ). take n (drop from x)) h
+
+-- bytes of blocks, one after the other
+joined-bytes : (g : ℕ → List ℕ) (a n : ℕ) → ((i : ℕ) → Bytes (g i)) → Bytes (joined g (counting a n))
+joined-bytes g a zero h k = omega arith
+joined-bytes g a (suc n) h k = bytes-append (g a) (joined g (counting (a + 1) n)) (h a) (joined-bytes g (a + 1) n h) k
+
+file-bytes : (p : Plan) (h : Header) (d : Disc) (f : ℕ) → ((i : ℕ) → Bytes (at d i)) → Bytes (file-in p h d f)
+unfolding file-in cell
+file-bytes p h d f b = bytes-take (length-in h f) _ (joined-bytes _ 0 (p .each) (λ i. b (place p (copy-in h (f * p .each + i)) (f * p .each + i))))
+
+file-short : (p : Plan) (h : Header) (d : Disc) (f : ℕ) → length (file-in p h d f) ≤ length-in h f
+unfolding file-in
+file-short p h d f = simp length-take (omega arith)
+
+-- what a disc holds fits
+pub held-fits : Held-fits
+unfolding Sound
+held-fits z d fs k =
+    record {
+      sizes = k .taken .range;
+      count = count-if z d fs k;
+      short = λ f. ⊎-elim
+          (λ (l : f < z .files).
+          let s : length-in (current-header (plan-of z) d) f ≤ z .file = k .taken .sound f l in
+          let o = file-short (plan-of z) (current-header (plan-of z) d) d f in
+          rw (this f l) (omega arith))
+          (λ (l : z .files ≤ f). rw (past f l) (omega arith)) (cases-lt f (z .files));
+      bytes = λ f. ⊎-elim (λ (l : f < z .files). rw (this f l) (file-bytes (plan-of z) (current-header (plan-of z) d) d f (k .taken .bytes)))
+          (λ (l : z .files ≤ f). rw (past f l) (λ i. omega arith)) (cases-lt f (z .files));
+    }
+  where
+    this : (f : ℕ) → f < z .files → getD fs f [] ≡ file-in (plan-of z) (current-header (plan-of z) d) d f
+    this f l = ap (λ (v : List (List ℕ)). getD v f []) (sym (k .files)) ∙ file-of-files (plan-of z) d f l
+
+    past : (f : ℕ) → z .files ≤ f → getD fs f [] ≡ []
+    past f l = let n = count-if z d fs k in getD-past fs f [] (omega arith)

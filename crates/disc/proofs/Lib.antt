@@ -4,3 +4,4 @@ pub mod Places
 pub mod Verdicts
 pub mod Held
 pub mod Images
+pub mod Every

@@ -57,16 +57,21 @@ sizes-in b =
 abbrev pub disc-sizes : List ℕ → Sizes
 disc-sizes xs = sizes-in (at (blocks xs) 0)
 
+-- x lies in a range
 abbrev pub between : ℕ → ℕ → ℕ → Bool
 between least x most = leb least x && leb x most
 
+-- so many bytes may a process's memory have: whole pages
 abbrev pub pages : ℕ → Bool
 pages x = between 4096 x 1048576 && eqb (x % 4096) 0
 
 -- the range of each size
 abbrev pub ranges : Sizes → List Bool
 ranges z =
-    between 1 (z .processes) 64 ∷ between 1 (z .opens) 256 ∷ between 0 (z .pipes) 64 ∷ between 3 (z .handles) 16
+    between 1 (z .processes) 64
+    ∷ between 1 (z .opens) 256
+    ∷ between 0 (z .pipes) 64
+    ∷ between 3 (z .handles) 16
     ∷ pages (z .memory)
     ∷ between 1 (z .pipe) 4096
     ∷ between 0 (z .file) 262144
@@ -100,23 +105,24 @@ first-wrong p d = lowest (wrong p d) (room p)
 abbrev pub frames-for : Sizes → ℕ
 frames-for z = z .processes * z .memory / 4096 + 80
 
--- THE REFUSALS, 1 to 5: of a disc's length
+-- THE REFUSALS. 1: of a disc's length
 abbrev pub length-refusal : ℕ → Option Refusal
 length-refusal n = cond (eqb (n % 512) 0 && between 1024 n 67108864) None (Some (Length n))
 
--- of block 0
+-- 2: of block 0, by its name
 abbrev pub name-refusal : List ℕ → Option Refusal
 name-refusal b = cond (named b) None (Some Name)
 
+-- 3: of the first size that is out of range, if there is one
 abbrev pub size-refusal : Option ℕ → Option Refusal
 size-refusal None = None
 size-refusal (Some i) = Some (Size (4 + 4 * i))
 
--- of the lowest block that is wrong, where there have to be n
+-- 4: of the lowest block that is wrong, where there have to be n blocks
 abbrev pub block-refusal : ℕ → ℕ → Option Refusal
 block-refusal n b = cond (ltb b n) (Some (Block (512 * b))) None
 
--- of so many bytes lent for frames; a rest below 4,096 is no frame
+-- 5: of so many bytes lent for n frames; a rest below 4,096 is no frame
 abbrev pub frame-refusal : ℕ → ℕ → Option Refusal
 frame-refusal n lent = cond (ltb (lent / 4096) n) (Some (Frames n)) None
 
@@ -126,7 +132,7 @@ first-of [] = None
 first-of (None ∷ rs) = first-of rs
 first-of (Some r ∷ rs) = Some r
 
--- what is refused of a row of bytes as a disc
+-- what is refused of a row of bytes as a disc: the first of 1 to 4
 unfoldable pub disc-refusal : List ℕ → Option Refusal
 disc-refusal xs =
     first-of
@@ -134,7 +140,7 @@ disc-refusal xs =
     ∷ block-refusal (room (plan-of (disc-sizes xs))) (first-wrong (plan-of (disc-sizes xs)) (blocks xs))
     ∷ [])
 
--- what is refused of a row of bytes as a disc, with so many bytes lent for frames
+-- what is refused of a row of bytes as a disc, with so many bytes lent for frames: the first of 1 to 5
 unfoldable pub refusal-of : List ℕ → ℕ → Option Refusal
 refusal-of xs lent = first-of (disc-refusal xs ∷ frame-refusal (frames-for (disc-sizes xs)) lent ∷ [])
 

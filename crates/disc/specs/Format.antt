@@ -6,12 +6,13 @@ use mathlib.Core.Bool.{true}
 use Prim.Native.Nat.{ℕ, _+_, _*_, _≤_, _<_}
 use lib.ListN.{length, getD}
 use Rattle.std.specs.declared.option.Option.the-variants.{Some}
-use Rattle.turns.specs.Ranges.{In-range}
+use Rattle.turns.specs.Ranges.{In-range, Fits}
 use Rattle.turns.specs.declared.vocabulary.Sizes.{Sizes}
 use Rattle.bytes.specs.Words.{word-at}
+use Rattle.disc.specs.Blocks.{Disc}
 use Rattle.disc.specs.Layout.{plan-of, data-at, room, Fit}
 use Rattle.disc.specs.declared.layout.Plan.{Plan}
-use Rattle.disc.specs.Check.{named, sizes-in, first-out}
+use Rattle.disc.specs.Check.{named, sizes-in, first-out, Holds}
 use Rattle.disc.specs.declared.format.Misfit.{Misfit}
 use Rattle.disc.specs.declared.format.Misfit.the-variants.{Size, Count, File, Image}
 
@@ -50,3 +51,11 @@ pub record Laid (z : Sizes) (p : Plan) (fs : List (List ℕ)) (i : ℕ) (xs : Li
   pub bits : (k : ℕ) → 1536 ≤ k → k < 512 * (2 + p .head) → getD xs k 0 ≡ 0
   pub lengths : (f : ℕ) → f < i → word-at xs (1024 + 4 * f) ≡ length (getD fs f [])
   pub held : (f : ℕ) → f < i → (k : ℕ) → k < length (getD fs f []) → getD xs (512 * (data-at p + f * p .each) + k) 0 ≡ getD (getD fs f []) k 0
+
+-- EVERY LIST OF FILES that fits has a disc
+abbrev pub Every-list : Type 0
+Every-list = (z : Sizes) (fs : List (List ℕ)) → Fits z fs → (d : Disc) × Holds z d fs
+
+-- and what a disc holds fits
+abbrev pub Held-fits : Type 0
+Held-fits = (z : Sizes) (d : Disc) (fs : List (List ℕ)) → Holds z d fs → Fits z fs

@@ -15,7 +15,7 @@ ghost use Rattle.turns.specs.Ranges.{In-range, Fits};
 ghost use Rattle.disc.specs.Blocks.{blocks};
 ghost use Rattle.disc.specs.Layout.{plan-of, Fit, data-at, room};
 ghost use Rattle.disc.specs.Check.{named, sizes-in, first-out, Holds};
-ghost use Rattle.disc.specs.Format.{image-length, Short, Counted, Misfits, Planned, Laid};
+ghost use Rattle.disc.specs.Format.{image-length, Short, Counted, Misfits, Planned, Laid, Every-list, Held-fits};
 use crate::check::first_out;
 use crate::layout::Plan;
 use crate::read::content;
@@ -163,3 +163,9 @@ pub fn format(image: &mut [u8], sizes: Sizes, files: &[Vec<u8>]) -> Result<(), M
     put_files(image, plan, files);
     Ok(())
 }
+
+// Files fit if and only if there is a disc that holds them, as a fact about lists; there is nothing to run.
+pub fn what_fits_has_disc()
+    ensures every { λ _. ⌜ Every-list ⌝ }
+    ensures held { λ _. ⌜ Held-fits ⌝ }
+{}

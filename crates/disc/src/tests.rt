@@ -140,19 +140,26 @@ fn one_header_counts(rt: LibcRuntime) -> Result<(), Fail> {
     check_headers(&mut image)
 }
 
-#[test]
-fn made_and_read(rt: LibcRuntime) -> Result<(), Fail> {
-    let heap = rt.alloc();
-    let files = some_files(heap, 64, 262_144)?;
-    let mut image = vec![in heap; 7; 65_556 * 512]?;
-    check(format::format(&mut image, largest(), &files).is_ok())?;
-    let Ok(sizes) = check::check_disc(&image) else {
+// A disc is made over whatever was there, is taken, and holds just its files.
+fn check_made(
+    heap: Global,
+    image: &mut [u8],
+    sizes: Sizes,
+    count: u8,
+    long: usize,
+) -> Result<(), Fail> {
+    let files = some_files(heap, count, long)?;
+    check(format::format(image, sizes, &files).is_ok())?;
+    let Ok(found) = check::check_disc(image) else {
         return Err(Fail::new("refused"));
     };
-    check(read::holds_files(&image, sizes, &files))?;
-    check(sizes.files > 63)?;
-    check_eq(read::file_length(&image, sizes, 63), 262_144)?;
-    check(!read::holds_files(&image, sizes, &some_files(heap, 63, 262_144)?))?;
-    check(!read::holds_files(&image, sizes, &some_files(heap, 64, 262_143)?))?;
-    check(format::format(&mut image, largest(), &some_files(heap, 64, 262_145)?).is_err())
+    check(read::holds_files(image, found, &files))
+}
+
+#[test]
+fn made_and_read(rt: LibcRuntime) -> Result<(), Fail> {
+    let mut small = [7; 2_048];
+    check_made(rt.alloc(), &mut small, smallest(), 1, 0)?;
+    let mut large = vec![in rt.alloc(); 7; 65_556 * 512]?;
+    check_made(rt.alloc(), &mut large, largest(), 64, 262_144)
 }

@@ -1,9 +1,6 @@
-use mathlib.Core.Path.{_≡_, ap, _∙_}
-use mathlib.Core.List.{List}
-use Prim.Native.Nat.{ℕ}
 use native.Mathlib.Omega.{arith}
-use lib.ListN.{length, take, drop}
-use Rattle.disc.proofs.Held.{large-of, opened}
+use lib.ListN.{length}
+use Rattle.disc.proofs.Held.{large-of, opened, stretch-as}
 use Rattle.disc.proofs.read.read_file.Needs as need
 
 pub header-of-requires : need.header-of-requires
@@ -27,4 +24,4 @@ pub returns : need.returns
 returns c =
     let o = opened (c .args .sizes) (c .args .disc .now) (c .args .f) (c .header-of .result .now) (c .new-plan .result) (c .new-plan .ensures .value) (c .pre .taken) (c .pre .file)
     (c .header-of .ensures .value) in
-    c .read-by .ensures ∙ ap (λ (x : List ℕ). take (length (c .args .out .now)) (drop (c .args .from) x)) (o .same)
+    stretch-as (c .read-by .last .out) _ _ (length (c .args .out .now)) (c .args .from) (c .read-by .ensures) (o .same)
