@@ -4,5 +4,3 @@ pub mod check;
 pub mod format;
 pub mod layout;
 pub mod read;
-#[cfg(test)]
-mod tests;

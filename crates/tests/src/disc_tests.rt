@@ -2,9 +2,9 @@
 ghost use mathlib.Core.Path.{_≡_};
 ghost use Prim.Native.Nat.{_<_, _≤_};
 ghost use lib.ListN.{length};
-use crate::check;
-use crate::format;
-use crate::read;
+use disc::check;
+use disc::format;
+use disc::read;
 use std::alloc::AllocError;
 use std::alloc::Global;
 use std::test::*;
