@@ -1,6 +1,10 @@
 // Instructions carried out on the registers of a process.
 ghost use mathlib.Core.Path.{_≡_};
 ghost use Prim.Native.Nat.{_%_, _<_};
+ghost use mathlib.Core.Bool.{cond};
+ghost use lib.Dec.{ltb};
+ghost use Rattle.std.specs.declared.option.Option.the-variants.{Some, None};
+ghost use Rattle.turns.specs.Numbers.{call-number};
 ghost use Rattle.instructions.specs.Decode.{Sound};
 ghost use Rattle.rv32.specs.Execute.{reg-of, with-reg, stepped, finished, jumped, call-of, call-in, executed, performed, fresh, answered, Sound-effect, Waits};
 use crate::compute::*;
@@ -11,7 +15,8 @@ use turns::vocabulary::Call;
 
 // The call of a number and its arguments.
 pub fn call_of(number: u32, a: u32, b: u32, c: u32) -> Call
-    ensures { λ r. ⌜ r ≡ call-of number a b c ⌝ }
+    ensures value { λ r. ⌜ r ≡ call-of number a b c ⌝ }
+    ensures number { λ r. ⌜ call-number r ≡ cond (ltb number 12) (Some number) None ⌝ }
 {
     match number {
         0 => Call::Leave(a),
