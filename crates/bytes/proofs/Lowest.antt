@@ -1,12 +1,11 @@
 -- What the lowest place is. Assumes nothing.
-use mathlib.Core.Path.{_≡_, refl, ap, _∙_}
+use mathlib.Core.Path.{_≡_, ap, _∙_}
 use mathlib.Core.Logic.{_⊎_, inl, inr, ⊎-elim}
 use mathlib.Core.Bool.{Bool, true, false}
 use Prim.Native.Nat.{ℕ, zero, suc, _+_, _-_, _≤_, _<_}
 use native.Mathlib.Omega.{arith}
-use lib.Dec.{ltb}
-use Rattle.std.proofs.shelf.Tests.{cases-eq, ltb-true, ltb-false, lt-ltb, le-ltb, false≢true, both-ways, cases-bool}
-use Rattle.bytes.specs.Rows.{lowest-from, lowest, some, pick}
+use Rattle.std.proofs.shelf.Tests.{cases-eq, ltb-false, both-ways, cases-bool}
+use Rattle.bytes.specs.Rows.{lowest-from, lowest, some}
 use Rattle.bytes.proofs.Tests.{pick-both, pick-true, pick-false}
 
 pub lowest-from-le : (test : ℕ → Bool) (i n : ℕ) → lowest-from test i n ≤ i + n

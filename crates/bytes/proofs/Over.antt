@@ -1,14 +1,12 @@
 -- What lists of bytes do under `over`. Assumes nothing.
-use mathlib.Core.Path.{_≡_, refl, sym, ap, _∙_}
-use mathlib.Core.Logic.{_≢_, _⊎_, inl, inr, ⊎-elim}
+use mathlib.Core.Path.{_≡_, refl, ap, _∙_}
+use mathlib.Core.Logic.{_⊎_, inl, inr}
 use mathlib.Core.List.{List, [], _∷_, _++_}
 use Prim.Native.Nat.{ℕ, zero, suc, _+_, _-_, _≤_, _<_}
 use native.Mathlib.Omega.{arith}
 use lib.ListN.{length, getD, set, replicate, take, drop}
-use Rattle.std.proofs.shelf.Lists.{length-append, length-take, length-drop, length-replicate, length-set, getD-append-left, getD-append-right, getD-drop, getD-past, getD-set-same, getD-set-other, ext-getD}
-use Rattle.std.proofs.shelf.Tests.{cases-lt, cases-eq}
+use Rattle.std.proofs.shelf.Lists.{length-append, length-drop, getD-append-left, getD-append-right, getD-drop}
 use Rattle.bytes.specs.Rows.{over, Bytes}
-use Rattle.bytes.proofs.Tests.{getD-set-by}
 
 pub length-over : (xs : List ℕ) (a : ℕ) (ys : List ℕ) → a + length ys ≤ length xs → length (over xs a ys) ≡ length xs
 unfolding over

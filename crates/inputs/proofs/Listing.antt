@@ -1,12 +1,10 @@
 -- What a list says, line by line. Assumes nothing.
 use mathlib.Core.Path.{_≡_, refl, sym, ap, subst, _∙_}
-use mathlib.Core.Logic.{_⊎_, inl, inr}
-use mathlib.Core.Bool.{Bool, true, false, cond}
-use mathlib.Core.List.{List, [], _∷_}
-use Prim.Native.Nat.{ℕ, zero, suc, _+_, _-_, _≤_, _<_}
+use mathlib.Core.List.{List}
+use Prim.Native.Nat.{ℕ, _+_, _-_, _≤_, _<_}
 use native.Mathlib.Omega.{arith}
-use lib.Dec.{ltb, leb, eqb}
-use lib.ListN.{length, getD, set, replicate}
+use lib.Dec.{ltb, eqb}
+use lib.ListN.{length, getD}
 use Rattle.std.specs.Options.{isSome}
 use Rattle.std.specs.Vec.{made}
 use Rattle.std.specs.declared.option.Option.{Option}

@@ -4,12 +4,11 @@ use mathlib.Core.List.{List, [], _∷_, _++_}
 use Prim.Native.Nat.{ℕ, _+_, _≤_, _<_}
 use lib.ListN.{length}
 use Rattle.std.specs.Joined.{joined}
-use Rattle.std.specs.declared.result.Result.{Result}
 use Rattle.std.specs.declared.result.Result.the-variants.{Ok, Err}
 use Rattle.std.proofs.shelf.Lists.{joined-more}
 use Rattle.turns.specs.Numbers.{input-bytes}
 use Rattle.turns.specs.declared.vocabulary.Input.{Input}
-use Rattle.inputs.specs.Lines.{line-end, lines-from, all-lines}
+use Rattle.inputs.specs.Lines.{line-end, lines-from}
 use Rattle.inputs.specs.Scripts.{line-of, brings, script-step, script-of}
 use Rattle.inputs.specs.declared.scripts.Wrong.{Wrong}
 use Rattle.inputs.specs.declared.scripts.Line.{Line}

@@ -1,22 +1,21 @@
 -- One input at a time. Assumes nothing.
-use mathlib.Core.Path.{_≡_, refl, sym, ap, subst, _∙_}
+use mathlib.Core.Path.{_≡_, refl, sym, ap, _∙_}
 use mathlib.Core.Bool.{Bool, true, false, cond, _||_}
 use mathlib.Core.List.{List, [], _∷_, _++_}
-use mathlib.Core.Logic.{_≢_, _⊎_, inl, inr, ⊎-elim}
-use Prim.Native.Nat.{ℕ, zero, suc, _+_, _*_, _-_, _^_, _≤_, _<_}
+use mathlib.Core.Logic.{_⊎_, ⊎-elim}
+use Prim.Native.Nat.{ℕ, zero, suc, _+_, _-_, _^_, _≤_, _<_}
 use native.Mathlib.Omega.{arith}
-use lib.Dec.{ltb, leb, eqb}
-use lib.ListN.{length, getD, take, drop}
+use lib.Dec.{ltb, eqb}
+use lib.ListN.{length, getD, drop}
 use Rattle.std.specs.Joined.{joined}
 use Rattle.std.specs.declared.option.Option.{Option}
 use Rattle.std.specs.declared.option.Option.the-variants.{Some, None}
-use Rattle.std.proofs.shelf.Tests.{cond-both, cond-true, cond-false, or-left, or-right, or-from, or-parts, cases-bool, cases-lt, ltb-false, lt-ltb, le-ltb, le-leb, lt-leb, eqb-true, eqb-false}
+use Rattle.std.proofs.shelf.Tests.{cond-both, cond-true, cond-false, or-left, or-right, or-from, or-parts, cases-lt, ltb-false, lt-ltb, le-ltb, le-leb, lt-leb}
 use Rattle.std.proofs.shelf.Lists.{drop-all, drop-more}
 use Rattle.bytes.specs.Rows.{Bytes}
 use Rattle.bytes.specs.Words.{word-at, word-bytes}
 use Rattle.bytes.proofs.Numbers.{word-back}
 use Rattle.turns.specs.Numbers.{input-bytes}
-use Rattle.turns.specs.declared.vocabulary.Input.{Input}
 use Rattle.inputs.specs.Events.{Good, refusal-of, Written-out, span, after, input-at, ticks-at, broken, refusal-in, refusal-from, inputs-in, inputs-from}
 
 span-some : (k : ℕ) → 3 ≤ span k

@@ -1,11 +1,11 @@
 -- What a list says, line by line. Assumes nothing: these are definitions.
 use mathlib.Core.Path.{_≡_}
-use mathlib.Core.Bool.{Bool, true, false, cond, not, _&&_}
-use mathlib.Core.List.{List, [], _∷_}
-use Prim.Native.Nat.{ℕ, zero, suc, _+_, _-_, _%_, _<_, _≤_}
+use mathlib.Core.Bool.{Bool, cond, _&&_}
+use mathlib.Core.List.{List}
+use Prim.Native.Nat.{ℕ, _-_, _≤_}
 use lib.Chars.{codes}
 use lib.Dec.{ltb, leb, eqb}
-use lib.ListN.{length, getD, set, replicate, take, drop}
+use lib.ListN.{getD, set, replicate, take, drop}
 use Rattle.std.specs.shelf.Text.{sameBytes}
 use Rattle.std.specs.declared.option.Option.{Option}
 use Rattle.std.specs.declared.option.Option.the-variants.{Some, None}
@@ -17,7 +17,7 @@ use Rattle.std.specs.declared.result.Result.the-variants.{Ok, Err}
 use Rattle.inputs.specs.Lines.{line-end, all-lines}
 use Rattle.inputs.specs.Names.{size-named, place-of, name-at, with-size}
 use Rattle.inputs.specs.declared.names.SizeName.{SizeName}
-use Rattle.inputs.specs.declared.seeking.Seek.the-variants.{Blank, Word, LineEnd, Comment}
+use Rattle.inputs.specs.declared.seeking.Seek.the-variants.{Blank, Word, Comment}
 use Rattle.inputs.specs.declared.lists.Span.{Span}
 use Rattle.inputs.specs.declared.lists.Reason.{Reason}
 use Rattle.inputs.specs.declared.lists.Reason.the-variants.{UnknownWord, NoNumber, NoPath, TooManyWords, Twice, Missing, FileTwice, NoSuchFile}

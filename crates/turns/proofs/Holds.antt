@@ -1,37 +1,33 @@
 -- Every handle in use leads to an open thing that is something. Assumes nothing.
 use mathlib.Core.Path.{_≡_, refl, sym, ap, subst, _∙_}
-use mathlib.Core.Logic.{_≢_, _⊎_, inl, inr, ⊎-elim}
-use mathlib.Core.Bool.{Bool, true, false, _&&_, _||_, not}
-use mathlib.Core.List.{List, [], _∷_, _++_, map}
-use Prim.Native.Nat.{ℕ, zero, suc, min, _+_, _*_, _-_, _%_, _≤_, _<_}
+use mathlib.Core.Logic.{_⊎_, inl, inr}
+use mathlib.Core.Bool.{true, false, _&&_}
+use mathlib.Core.List.{List, [], _∷_, map}
+use Prim.Native.Nat.{ℕ, zero, suc, _-_, _<_}
 use native.Mathlib.Omega.{arith}
-use lib.ListN.{length, getD, set, replicate, take, drop}
+use lib.ListN.{length, getD, set, replicate, take}
 use Rattle.std.specs.declared.option.Option.{Option}
 use Rattle.std.specs.declared.option.Option.the-variants.{Some, None}
-use Rattle.bytes.specs.Rows.{pick, over}
-use Rattle.bytes.proofs.Tests.{pick-both, pick-true, pick-false, getD-set-by, getD-all}
-use Rattle.turns.specs.Core.{Core, Act, quiet, store, asks, wrong}
-use Rattle.turns.specs.World.{World, Process, Done, process, nobody, runs-in, event, run, ticks}
-use Rattle.turns.specs.World.{with-process, with-processes, with-open, with-pipe, with-file, with-keys, with-shown, with-turn, with-cpu, with-memory, with-handles, with-parent, into-memory, orphaned, leaves, pipe-of, file-of, keys-of, shown-on, end-of}
+use Rattle.bytes.proofs.Tests.{getD-set-by, getD-all}
+use Rattle.turns.specs.Core.{Core}
+use Rattle.turns.specs.World.{World, Process, process, nobody, runs-in, event}
+use Rattle.turns.specs.World.{with-process, with-processes, with-open, with-pipe, with-file, with-keys, with-shown, with-turn, with-cpu, with-memory, with-handles, into-memory, orphaned, leaves, pipe-of}
 use Rattle.turns.specs.declared.vocabulary.Sizes.{Sizes}
 use Rattle.turns.specs.declared.vocabulary.Event.{Event}
-use Rattle.turns.specs.declared.vocabulary.Event.the-variants.{Tick, Key}
-use Rattle.turns.proofs.Step.{Ways, New, ticked, stored, filled, handled, piped, begun, born, reaped, tick-by, key-by, event-by, run-by, comes-by}
-use Rattle.std.proofs.shelf.Lists.{length-set, getD-set-other}
-use Rattle.std.proofs.shelf.Tests.{both-ways, and-from, and-parts, ltb-true, eqb-true, eq-eqb, cases-eq, cases-lt}
+use Rattle.turns.proofs.Step.{Ways, New, ticked, stored, filled, handled, piped, begun, born, reaped, event-by, comes-by}
+use Rattle.std.proofs.shelf.Lists.{length-set}
+use Rattle.std.proofs.shelf.Tests.{both-ways, and-from, and-parts, ltb-true, eqb-true, eq-eqb}
 use Rattle.bytes.specs.Rows.{lowest, some}
 use Rattle.bytes.proofs.Lowest.{lowest-holds, some-at}
 use Rattle.turns.specs.World.{is-running, has-open, in-use, leads-to, opened, closed, handle-of, begin}
 use Rattle.turns.specs.Ranges.{Fits}
 use Rattle.turns.specs.Theorems.{Comes, Real}
-use Rattle.turns.specs.declared.vocabulary.State.the-variants.{Free, Runs, Left}
 use Rattle.turns.specs.declared.vocabulary.End.{End}
-use Rattle.turns.specs.declared.vocabulary.End.the-variants.{Nothing, Screen, File, WriteEnd, ReadEnd}
 use Rattle.turns.specs.declared.vocabulary.OpenThing.{OpenThing}
 use Rattle.turns.proofs.Step.{Named, a-file, a-screen, Handle, none, copied, new, Opened, made, went, from-pipe}
 use Rattle.turns.proofs.Others.{orphans}
 use Rattle.turns.proofs.Pipes.{runs-within}
-use Rattle.turns.proofs.Shapes.{Tables, table-ways, table-step, table-start}
+use Rattle.turns.proofs.Shapes.{Tables, table-ways, table-start}
 
 some-not-none : (k : ℕ) → _≡_ {A = Option ℕ} None (Some k) → ⊥
 some-not-none k e = let x : _≡_ {A = ℕ} 0 1 = cc in omega arith

@@ -1,21 +1,19 @@
 -- From what a start and one event owe to the main promise. Assumes nothing.
 use mathlib.Core.Path.{_≡_, refl, sym, ap, subst, _∙_}
 use mathlib.Core.Logic.{_⊎_, inl, inr}
-use mathlib.Core.Bool.{Bool, true, false}
+use mathlib.Core.Bool.{false}
 use mathlib.Core.List.{List, [], _∷_, _++_}
-use Prim.Native.Nat.{ℕ, zero, suc, _+_, _-_, _≤_, _<_}
+use Prim.Native.Nat.{ℕ, _+_, _-_, _≤_}
 use native.Mathlib.Omega.{arith}
-use lib.ListN.{length, take}
+use lib.ListN.{length}
 use Rattle.std.proofs.shelf.Lists.{append-nil, append-assoc, length-append, take-all, take-append-le}
 use Rattle.bytes.proofs.Tests.{pick-false}
 use Rattle.turns.specs.Core.{Core}
-use Rattle.turns.specs.World.{World, process, run, begin, event}
+use Rattle.turns.specs.World.{World, run, begin, event}
 use Rattle.turns.specs.Happens.{sure, sure-after, saves}
-use Rattle.turns.specs.Theorems.{count-ticks}
 use Rattle.turns.specs.Promise.{Cut, Life, but-last, after, life-of, Moment, Lives, none, ends, cut, System, life-in, Goes, nothing, onward, cut-short, Row, Owed, Keeps-promise, Functions, system-of, goes, left-by, lives-in, Same-shown, Comes-up}
 use Rattle.turns.specs.Promise as promise
 use Rattle.turns.specs.declared.vocabulary.Sizes.{Sizes}
-use Rattle.turns.specs.declared.vocabulary.State.{State}
 use Rattle.turns.specs.declared.vocabulary.Event.{Event}
 use Rattle.turns.proofs.Rows.{run-append, sure-more, sure-is-past}
 

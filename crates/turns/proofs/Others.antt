@@ -1,22 +1,17 @@
 -- Processes that run are left alone by others. Assumes nothing.
-use mathlib.Core.Path.{_≡_, refl, sym, ap, subst, _∙_}
-use mathlib.Core.Logic.{_≢_, _⊎_, inl, inr, ⊎-elim}
-use mathlib.Core.Bool.{Bool, true, false, _&&_, _||_, not}
-use mathlib.Core.List.{List, [], _∷_, _++_, map}
-use Prim.Native.Nat.{ℕ, zero, suc, min, _+_, _*_, _-_, _%_, _≤_, _<_}
-use native.Mathlib.Omega.{arith}
-use lib.ListN.{length, getD, set, replicate, take, drop}
-use Rattle.std.specs.declared.option.Option.{Option}
-use Rattle.std.specs.declared.option.Option.the-variants.{Some, None}
-use Rattle.bytes.specs.Rows.{pick, over}
-use Rattle.bytes.proofs.Tests.{pick-both, pick-true, pick-false, getD-set-by, getD-all}
-use Rattle.turns.specs.Core.{Core, Act, quiet, store, asks, wrong}
-use Rattle.turns.specs.World.{World, Process, Done, process, nobody, runs-in, event, run, ticks}
-use Rattle.turns.specs.World.{with-process, with-processes, with-open, with-pipe, with-file, with-keys, with-shown, with-turn, with-cpu, with-memory, with-handles, with-parent, into-memory, orphaned, leaves, pipe-of, file-of, keys-of, shown-on, end-of}
+use mathlib.Core.Path.{_≡_, refl, sym, subst}
+use mathlib.Core.Logic.{_≢_}
+use mathlib.Core.Bool.{true, false, _&&_}
+use mathlib.Core.List.{List, [], _∷_, map}
+use Prim.Native.Nat.{ℕ, zero, suc, _-_}
+use lib.ListN.{getD, set}
+use Rattle.bytes.proofs.Tests.{getD-set-by}
+use Rattle.turns.specs.Core.{Core}
+use Rattle.turns.specs.World.{World, Process, process, nobody, runs-in, event}
+use Rattle.turns.specs.World.{with-process, with-processes, with-open, with-pipe, with-file, with-keys, with-shown, with-turn, with-parent, into-memory, orphaned, leaves}
 use Rattle.turns.specs.declared.vocabulary.Sizes.{Sizes}
-use Rattle.turns.specs.declared.vocabulary.Event.{Event}
 use Rattle.turns.specs.declared.vocabulary.Event.the-variants.{Tick, Key}
-use Rattle.turns.proofs.Step.{Ways, New, ticked, stored, filled, handled, piped, begun, born, reaped, tick-by, key-by, event-by, run-by, comes-by}
+use Rattle.turns.proofs.Step.{Ways, New, ticked, stored, filled, handled, piped, begun, born, reaped, key-by, event-by}
 use Rattle.std.proofs.shelf.Tests.{both-ways, and-parts}
 use Rattle.bytes.proofs.Lowest.{lowest-holds}
 use Rattle.turns.specs.World.{is-free, is-running, is-left, free-process, left-child, is-child, without-parent}

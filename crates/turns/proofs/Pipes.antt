@@ -1,32 +1,30 @@
 -- What goes through a pipe. Assumes nothing.
 use mathlib.Core.Path.{_≡_, refl, sym, ap, subst, _∙_}
-use mathlib.Core.Logic.{_≢_, _⊎_, inl, inr, ⊎-elim}
-use mathlib.Core.Bool.{Bool, true, false, _&&_, _||_, not}
-use mathlib.Core.List.{List, [], _∷_, _++_, map}
-use Prim.Native.Nat.{ℕ, zero, suc, min, _+_, _*_, _-_, _%_, _≤_, _<_}
+use mathlib.Core.Logic.{_⊎_, inl, inr}
+use mathlib.Core.Bool.{Bool, true, false, _||_, not}
+use mathlib.Core.List.{List, [], _∷_, _++_}
+use Prim.Native.Nat.{ℕ, zero, suc, _+_, _-_, _<_}
 use native.Mathlib.Omega.{arith}
-use lib.ListN.{length, getD, set, replicate, take, drop}
+use lib.ListN.{length, getD, take, drop}
 use Rattle.std.specs.declared.option.Option.{Option}
 use Rattle.std.specs.declared.option.Option.the-variants.{Some, None}
 use Rattle.bytes.specs.Rows.{pick, over}
-use Rattle.bytes.proofs.Tests.{pick-both, pick-true, pick-false, getD-set-by, getD-all}
+use Rattle.bytes.proofs.Tests.{pick-both, pick-true}
 use Rattle.turns.specs.Core.{Core, Act, quiet, store, asks, wrong}
-use Rattle.turns.specs.World.{World, Process, Done, process, nobody, runs-in, event, run, ticks}
-use Rattle.turns.specs.World.{with-process, with-processes, with-open, with-pipe, with-file, with-keys, with-shown, with-turn, with-cpu, with-memory, with-handles, with-parent, into-memory, orphaned, leaves, pipe-of, file-of, keys-of, shown-on, end-of}
+use Rattle.turns.specs.World.{World, Process, Done, process, nobody, runs-in, event, run}
+use Rattle.turns.specs.World.{with-process, with-processes, with-open, with-pipe, with-file, with-keys, with-shown, with-turn, with-cpu, with-memory, into-memory, orphaned, leaves, pipe-of, end-of}
 use Rattle.turns.specs.declared.vocabulary.Sizes.{Sizes}
 use Rattle.turns.specs.declared.vocabulary.Event.{Event}
 use Rattle.turns.specs.declared.vocabulary.Event.the-variants.{Tick, Key}
-use Rattle.turns.proofs.Step.{Ways, New, ticked, stored, filled, handled, piped, begun, born, reaped, tick-by, key-by, event-by, run-by, comes-by}
-use lib.Dec.{eqb, ltb, leb}
-use Rattle.std.proofs.shelf.Lists.{append-nil, append-assoc, length-take, take-append-drop, length-set, getD-set-same, getD-set-other, getD-past}
-use Rattle.std.proofs.shelf.Tests.{both-ways, cases-eq, cases-bool, eqb-false, ltb-false, or-parts, and-from, leb-false, not-true, not-false}
+use Rattle.turns.proofs.Step.{Ways, key-by, event-by}
+use Rattle.std.proofs.shelf.Lists.{append-nil, append-assoc, length-take, take-append-drop, length-set, getD-set-same, getD-set-other}
+use Rattle.std.proofs.shelf.Tests.{both-ways, cases-eq, or-parts, and-from, leb-false, not-true}
 use Rattle.bytes.proofs.Lowest.{lowest-holds}
 use Rattle.bytes.proofs.Over.{take-over}
-use Rattle.turns.specs.World.{answers, turned-down, stays, is-running, opened, handle-of, end-behind, in-memory, in-file, fitting, moved, with-handle, readers, writers, free-pipe, passes, spends, goes-on, after-call, acts, instruction}
+use Rattle.turns.specs.World.{answers, is-running, handle-of, end-behind, in-memory, fitting, moved, with-handle, readers, writers, free-pipe, passes, spends, goes-on, after-call, acts, instruction}
 use Rattle.turns.specs.World.{forks, waits, execs, opens, closes, copies, pipes-through, reads-from, reads-by, reads, writes-to, writes-by, writes, ends-at, ends, does}
 use Rattle.turns.specs.Happens.{asked, made, Took, Gave, Flow, still, took, gave, Flows, none, more, pipe-in-use, Stays-in-use}
 use Rattle.turns.specs.Theorems.{In-order, First-in-first-out}
-use Rattle.turns.specs.declared.vocabulary.State.the-variants.{Free, Runs, Left}
 use Rattle.turns.specs.declared.vocabulary.End.{End}
 use Rattle.turns.specs.declared.vocabulary.End.the-variants.{Nothing, Screen, File, WriteEnd, ReadEnd}
 use Rattle.turns.specs.declared.vocabulary.Call.{Call}

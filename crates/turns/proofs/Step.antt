@@ -1,36 +1,34 @@
 -- The ways in which an event changes a world, each once: what holds of all of them holds of every event. Assumes nothing.
 use mathlib.Core.Path.{_≡_, refl, sym, ap, subst, _∙_}
 use mathlib.Core.Logic.{_≢_, _⊎_, inl, inr}
-use mathlib.Core.Bool.{Bool, true, false, _&&_, _||_, not}
+use mathlib.Core.Bool.{Bool, true, false}
 use mathlib.Core.List.{List, [], _∷_, _++_}
-use Prim.Native.Nat.{ℕ, zero, suc, _+_, _-_, _%_, _≤_, _<_}
+use Prim.Native.Nat.{ℕ, suc, _+_, _-_, _%_, _≤_, _<_}
 use native.Mathlib.Omega.{arith}
-use lib.Dec.{eqb, ltb, leb}
-use lib.ListN.{length, getD, set, replicate, take, drop}
+use lib.ListN.{length, set, take, drop}
 use Rattle.std.specs.declared.option.Option.{Option}
 use Rattle.std.specs.declared.option.Option.the-variants.{Some, None}
-use Rattle.std.proofs.shelf.Tests.{leb-true, leb-false, ltb-true, ltb-false, or-parts, and-parts, not-true, not-false, cases-lt}
+use Rattle.std.proofs.shelf.Tests.{leb-true, leb-false, ltb-true, ltb-false, or-parts, and-parts, not-false, cases-lt}
 use Rattle.std.proofs.shelf.Lists.{length-take, length-drop, length-set, getD-set-same, getD-set-other}
-use Rattle.bytes.specs.Rows.{pick, over, lowest, lowest-from}
+use Rattle.bytes.specs.Rows.{pick, over}
 use Rattle.bytes.proofs.Tests.{pick-both}
-use Rattle.bytes.proofs.Lowest.{lowest-holds, lowest-from-holds, lowest-from-ge}
+use Rattle.bytes.proofs.Lowest.{lowest-from-ge}
 use Rattle.turns.specs.Core.{Core, Act, quiet, store, asks, wrong}
-use Rattle.turns.specs.World.{World, Process, Done, answers, turned-down, stays, nobody, process, runs-in, opened, pipe-of, file-of, keys-of, shown-on, in-use, readers, writers, handle-of, end-behind, end-of}
-use Rattle.turns.specs.World.{with-process, with-open, with-pipe, with-file, with-keys, with-shown, with-turn, with-cpu, with-memory, with-handles, with-handle, into-memory, moved, orphaned, loaded, in-file, fitting, in-memory}
-use Rattle.turns.specs.World.{free-process, free-open, second-open, free-pipe, free-handle, second-handle, left-child, is-nothing, named, is-none, closed}
+use Rattle.turns.specs.World.{World, Process, Done, answers, turned-down, stays, nobody, process, runs-in, opened, pipe-of, file-of, keys-of, shown-on, readers, handle-of, end-behind, end-of}
+use Rattle.turns.specs.World.{with-process, with-open, with-pipe, with-file, with-keys, with-shown, with-turn, with-cpu, with-memory, with-handles, with-handle, into-memory, moved, loaded, fitting, in-memory}
+use Rattle.turns.specs.World.{free-process, free-open, second-open, free-pipe, free-handle, second-handle, left-child, is-nothing, named}
 use Rattle.turns.specs.World.{leaves, forks, waits, execs, opens, closes, copies, pipes-through, reads-from, reads-by, reads, writes-to, writes-by, writes, ends-at, ends, does}
 use Rattle.turns.specs.World.{passes, spends, goes-on, after-call, acts, instruction, event, run, begin}
 use Rattle.turns.specs.Ranges.{Fits}
 use Rattle.turns.specs.Theorems.{Comes, Real}
 use Rattle.turns.specs.declared.vocabulary.Sizes.{Sizes}
-use Rattle.turns.specs.declared.vocabulary.State.the-variants.{Free, Runs, Left}
+use Rattle.turns.specs.declared.vocabulary.State.the-variants.{Runs}
 use Rattle.turns.specs.declared.vocabulary.End.{End}
 use Rattle.turns.specs.declared.vocabulary.End.the-variants.{Nothing, Screen, File, WriteEnd, ReadEnd}
 use Rattle.turns.specs.declared.vocabulary.OpenThing.{OpenThing}
 use Rattle.turns.specs.declared.vocabulary.Call.{Call}
 use Rattle.turns.specs.declared.vocabulary.Call.the-variants as call
-use Rattle.turns.specs.declared.vocabulary.Outcome.{Outcome}
-use Rattle.turns.specs.declared.vocabulary.Outcome.the-variants.{Answer, Gone, Stays}
+use Rattle.turns.specs.declared.vocabulary.Outcome.the-variants.{Gone}
 use Rattle.turns.specs.declared.vocabulary.Event.{Event}
 use Rattle.turns.specs.declared.vocabulary.Event.the-variants.{Tick, Key}
 

@@ -1,26 +1,22 @@
 -- Whose turn it is. Assumes nothing.
-use mathlib.Core.Path.{_≡_, refl, sym, ap, subst, _∙_}
-use mathlib.Core.Logic.{_≢_, _⊎_, inl, inr, ⊎-elim}
-use mathlib.Core.Bool.{Bool, true, false, _&&_, _||_, not}
-use mathlib.Core.List.{List, [], _∷_, _++_, map}
-use Prim.Native.Nat.{ℕ, zero, suc, min, _+_, _*_, _-_, _%_, _≤_, _<_}
+use mathlib.Core.Path.{_≡_, refl, sym, ap, subst}
+use mathlib.Core.Logic.{_⊎_, inl, inr, ⊎-elim}
+use mathlib.Core.Bool.{true, false}
+use mathlib.Core.List.{List, [], _∷_}
+use Prim.Native.Nat.{ℕ, zero, suc, _+_, _*_, _-_, _≤_, _<_}
 use native.Mathlib.Omega.{arith}
-use lib.ListN.{length, getD, set, replicate, take, drop}
-use Rattle.std.specs.declared.option.Option.{Option}
-use Rattle.std.specs.declared.option.Option.the-variants.{Some, None}
-use Rattle.bytes.specs.Rows.{pick, over}
-use Rattle.bytes.proofs.Tests.{pick-both, pick-true, pick-false, getD-set-by, getD-all}
-use Rattle.turns.specs.Core.{Core, Act, quiet, store, asks, wrong}
-use Rattle.turns.specs.World.{World, Process, Done, process, nobody, runs-in, event, run, ticks}
-use Rattle.turns.specs.World.{with-process, with-processes, with-open, with-pipe, with-file, with-keys, with-shown, with-turn, with-cpu, with-memory, with-handles, with-parent, into-memory, orphaned, leaves, pipe-of, file-of, keys-of, shown-on, end-of}
+use lib.ListN.{take}
+use Rattle.bytes.proofs.Tests.{pick-both}
+use Rattle.turns.specs.Core.{Core}
+use Rattle.turns.specs.World.{World, process, runs-in, event, run}
+use Rattle.turns.specs.World.{with-process, with-processes, with-open, with-pipe, with-file, with-keys, with-shown, with-turn, into-memory, orphaned, leaves}
 use Rattle.turns.specs.declared.vocabulary.Sizes.{Sizes}
 use Rattle.turns.specs.declared.vocabulary.Event.{Event}
 use Rattle.turns.specs.declared.vocabulary.Event.the-variants.{Tick, Key}
-use Rattle.turns.proofs.Step.{Ways, New, ticked, stored, filled, handled, piped, begun, born, reaped, tick-by, key-by, event-by, run-by, comes-by}
+use Rattle.turns.proofs.Step.{Ways, tick-by, key-by, run-by, comes-by}
 use native.Mathlib.Nat.{mul-le-mul-right}
-use Rattle.std.proofs.shelf.Tests.{ltb-true, ltb-false, both-ways, cases-lt, cases-bool}
-use Rattle.turns.specs.World.{passes, spends, after-turn, begin, is-running}
-use Rattle.turns.specs.Ranges.{Fits}
+use Rattle.std.proofs.shelf.Tests.{ltb-true, both-ways, cases-lt, cases-bool}
+use Rattle.turns.specs.World.{passes, spends, after-turn, begin}
 use Rattle.turns.specs.Theorems.{Comes, Turn-comes, count-ticks}
 use Rattle.turns.proofs.Rows.{tick-stopped}
 use Rattle.turns.proofs.Idle.{after-turn-is}

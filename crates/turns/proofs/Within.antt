@@ -1,34 +1,28 @@
 -- Everything keeps within its size, and all is bytes. Assumes nothing.
-use mathlib.Core.Path.{_≡_, refl, sym, ap, subst, _∙_}
-use mathlib.Core.Logic.{_≢_, _⊎_, inl, inr, ⊎-elim}
-use mathlib.Core.Bool.{Bool, true, false, _&&_, _||_, not}
-use mathlib.Core.List.{List, [], _∷_, _++_, map}
-use Prim.Native.Nat.{ℕ, zero, suc, min, _+_, _*_, _-_, _%_, _≤_, _<_}
+use mathlib.Core.Path.{_≡_, sym, subst}
+use mathlib.Core.Logic.{inl, inr}
+use mathlib.Core.List.{List, [], _∷_, map}
+use Prim.Native.Nat.{ℕ, zero, suc, _-_, _%_, _≤_, _<_}
 use native.Mathlib.Omega.{arith}
-use lib.ListN.{length, getD, set, replicate, take, drop}
-use Rattle.std.specs.declared.option.Option.{Option}
-use Rattle.std.specs.declared.option.Option.the-variants.{Some, None}
-use Rattle.bytes.specs.Rows.{pick, over}
-use Rattle.bytes.proofs.Tests.{pick-both, pick-true, pick-false, getD-set-by, getD-all}
-use Rattle.turns.specs.Core.{Core, Act, quiet, store, asks, wrong}
-use Rattle.turns.specs.World.{World, Process, Done, process, nobody, runs-in, event, run, ticks}
-use Rattle.turns.specs.World.{with-process, with-processes, with-open, with-pipe, with-file, with-keys, with-shown, with-turn, with-cpu, with-memory, with-handles, with-parent, into-memory, orphaned, leaves, pipe-of, file-of, keys-of, shown-on, end-of}
+use lib.ListN.{length, getD, set, replicate}
+use Rattle.bytes.proofs.Tests.{getD-set-by, getD-all}
+use Rattle.turns.specs.Core.{Core}
+use Rattle.turns.specs.World.{World, Process, process, nobody, runs-in, event}
+use Rattle.turns.specs.World.{with-process, with-processes, with-open, with-pipe, with-file, with-keys, with-shown, with-turn, with-cpu, with-memory, with-handles, into-memory, orphaned, leaves, pipe-of, file-of, keys-of}
 use Rattle.turns.specs.declared.vocabulary.Sizes.{Sizes}
 use Rattle.turns.specs.declared.vocabulary.Event.{Event}
-use Rattle.turns.specs.declared.vocabulary.Event.the-variants.{Tick, Key}
-use Rattle.turns.proofs.Step.{Ways, New, ticked, stored, filled, handled, piped, begun, born, reaped, tick-by, key-by, event-by, run-by, comes-by}
-use Rattle.std.proofs.shelf.Lists.{length-take, length-append, length-drop, length-replicate, append-nil}
+use Rattle.turns.proofs.Step.{Ways, New, ticked, stored, filled, handled, piped, begun, born, reaped, event-by, comes-by}
+use Rattle.std.proofs.shelf.Lists.{length-take, length-append, length-drop}
 use Rattle.bytes.specs.Rows.{Bytes}
 use Rattle.bytes.proofs.Over.{length-over-le, bytes-take, bytes-drop, bytes-append, bytes-over, bytes-zeros}
-use native.Mathlib.Nat.{mod-lt}
-use Rattle.turns.specs.World.{opened, closed, loaded, begin, fitting, in-memory}
+use Rattle.turns.specs.World.{opened, closed, loaded, begin, in-memory}
 use Rattle.turns.specs.Ranges.{In-range, Fits}
-use Rattle.turns.specs.Theorems.{Comes, Real, Shaped, Keeps-shape, All-bytes, Stores-bytes, Keeps-bytes}
+use Rattle.turns.specs.Theorems.{Comes, Keeps-shape, All-bytes, Stores-bytes, Keeps-bytes}
 use Rattle.turns.specs.declared.vocabulary.OpenThing.{OpenThing}
 use Rattle.turns.proofs.Step.{Source, from-file, from-keys, from-pipe, Opened, made, went}
 use Rattle.turns.proofs.Others.{orphans}
-use Rattle.turns.proofs.Shapes.{Tables, tables, whole}
-use Rattle.turns.proofs.Holds.{Held, held}
+use Rattle.turns.proofs.Shapes.{tables, whole}
+use Rattle.turns.proofs.Holds.{held}
 use Rattle.turns.proofs.Turns.{in-turn}
 
 -- files, pipes, keys and the places of open things keep within their sizes

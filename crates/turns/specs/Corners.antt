@@ -7,12 +7,12 @@ use Rattle.std.specs.declared.option.Option.the-variants.{Some, None}
 use Rattle.turns.specs.Core.{Core, wrong}
 use Rattle.turns.specs.World.{World, process, does, event, run, begin, opened, pipe-of, file-of, no}
 use Rattle.turns.specs.declared.vocabulary.Sizes.{Sizes}
-use Rattle.turns.specs.declared.vocabulary.State.the-variants.{Free, Runs, Left}
+use Rattle.turns.specs.declared.vocabulary.State.the-variants.{Left}
 use Rattle.turns.specs.declared.vocabulary.End.the-variants as end
 use Rattle.turns.specs.declared.vocabulary.Call.{Call}
-use Rattle.turns.specs.declared.vocabulary.Call.the-variants.{Leave, Fork, Wait, Exec, Open, Close, Copy, Pipe, Read, Write, Save, End, Unknown}
+use Rattle.turns.specs.declared.vocabulary.Call.the-variants.{Leave, Fork, Wait, Exec, Open, Close, Copy, Pipe, Read, Write, End, Unknown}
 use Rattle.turns.specs.declared.vocabulary.Outcome.{Outcome}
-use Rattle.turns.specs.declared.vocabulary.Outcome.the-variants.{Answer, Gone, Stays}
+use Rattle.turns.specs.declared.vocabulary.Outcome.the-variants.{Answer, Stays}
 use Rattle.turns.specs.declared.vocabulary.Event.the-variants.{Tick, Key}
 
 unfoldable pub small : Sizes

@@ -2,11 +2,11 @@
 -- function of src/ whose contract names it. Assumes nothing.
 use mathlib.Core.Path.{_≡_}
 use mathlib.Core.Logic.{_≢_, _⊎_}
-use mathlib.Core.Bool.{Bool, true, false}
+use mathlib.Core.Bool.{true, false}
 use mathlib.Core.List.{List, [], _∷_, _++_}
 use Prim.Native.Nat.{ℕ, zero, suc, _+_, _*_, _%_, _≤_, _<_}
-use lib.ListN.{length, getD, take}
-use Rattle.std.specs.declared.option.Option.the-variants.{Some, None}
+use lib.ListN.{length, take}
+use Rattle.std.specs.declared.option.Option.the-variants.{Some}
 use Rattle.bytes.specs.Rows.{Bytes}
 use Rattle.turns.specs.Core.{Core, asks, store}
 use Rattle.turns.specs.World.{World, Process, run, begin, event, process, runs-in, opened, pipe-of, file-of, keys-of, shown-on, handle-of, end-of, ticks, instruction, does}

@@ -1,4 +1,4 @@
-use mathlib.Core.Path.{_≡_, refl}
+use mathlib.Core.Path.{refl}
 use native.Mathlib.Omega.{arith}
 use Rattle.bytes.proofs.Numbers.{two-sets, half-over}
 use Rattle.bytes.proofs.put_half.Needs as need

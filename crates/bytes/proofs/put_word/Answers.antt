@@ -1,4 +1,4 @@
-use mathlib.Core.Path.{_≡_, refl}
+use mathlib.Core.Path.{refl}
 use native.Mathlib.Omega.{arith}
 use Rattle.bytes.proofs.Numbers.{four-sets, word-over}
 use Rattle.bytes.proofs.put_word.Needs as need

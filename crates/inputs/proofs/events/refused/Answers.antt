@@ -1,7 +1,5 @@
-use mathlib.Core.Path.{_≡_, sym, _∙_}
-use Prim.Native.Nat.{_<_}
+use mathlib.Core.Path.{sym, _∙_}
 use native.Mathlib.Omega.{arith}
-use lib.ListN.{getD}
 use Rattle.inputs.proofs.Steps.{refused-broken, refused-many, refusal-on, refusal-end, written-out}
 use Rattle.inputs.proofs.events.refused.Needs as need
 

@@ -1,5 +1,4 @@
-use mathlib.Core.Path.{_≡_, refl}
-use Prim.Native.Nat.{_+_, _≤_}
+use mathlib.Core.Path.{refl}
 use native.Mathlib.Omega.{arith}
 use Rattle.inputs.proofs.Listing.{list-fails, list-more, list-ends, kept-unsaid, kept-more, finished-paths}
 use Rattle.inputs.proofs.lists.read_list.Needs as need

@@ -1,8 +1,5 @@
-use mathlib.Core.Path.{_≡_, sym, ap, _∙_}
-use Prim.Native.Nat.{_+_, _≤_}
 use native.Mathlib.Omega.{arith}
-use Rattle.std.specs.Of.Vec.{vec-items}
-use Rattle.inputs.proofs.Scripting.{So-far, so-far-none, so-far-nothing, so-far-more, so-far-bad, so-far-all}
+use Rattle.inputs.proofs.Scripting.{so-far-none, so-far-nothing, so-far-more, so-far-bad, so-far-all}
 use Rattle.inputs.proofs.scripts.read_script.Needs as need
 use Rattle.inputs.proofs.scripts.read_script.Needs.{in-Nothing, in-Feed·in-Ok}
 

@@ -1,5 +1,4 @@
-use mathlib.Core.Path.{_≡_, sym, ap, _∙_}
-use Prim.Native.Nat.{_≤_}
+use mathlib.Core.Path.{_≡_, sym, _∙_}
 use native.Mathlib.Omega.{arith}
 use Rattle.bytes.proofs.Lowest.{lowest-here, lowest-next, lowest-end}
 use Rattle.inputs.proofs.seeking.find.Needs as need

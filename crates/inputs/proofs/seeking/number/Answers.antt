@@ -1,4 +1,4 @@
-use mathlib.Core.Path.{sym, _∙_}
+use mathlib.Core.Path.{sym}
 use Rattle.inputs.proofs.Reading.{number-none, number-more, number-fails, number-ends}
 use Rattle.inputs.proofs.seeking.number.Needs as need
 

@@ -1,5 +1,4 @@
 use mathlib.Core.Path.{_≡_}
-use Prim.Native.Nat.{_<_, _^_}
 use lib.ListN.{drop}
 use Rattle.inputs.specs.Texts.{number-after}
 use Rattle.inputs.proofs.seeking.number.Given as given
