@@ -1,7 +1,7 @@
 // Words in bytes, the low byte first, over lent slices.
 ghost use mathlib.Core.Path.{_≡_};
 ghost use Prim.Native.Nat.{_+_, _≤_};
-ghost use lib.ListN.{length, getD};
+ghost use lib.ListN.{length};
 ghost use Rattle.bytes.specs.Words.{half-at, word-at, half-bytes, word-bytes};
 ghost use Rattle.bytes.specs.Rows.{over};
 

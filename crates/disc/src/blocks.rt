@@ -1,6 +1,6 @@
 // Blocks of 512 bytes, and the one function that writes them: as far as the power allows.
 ghost use mathlib.Core.Path.{_≡_};
-ghost use Prim.Native.Nat.{ℕ, _+_, _*_, _≤_};
+ghost use Prim.Native.Nat.{_+_, _*_, _≤_};
 ghost use lib.ListN.{length, set};
 ghost use Rattle.disc.specs.Blocks.{at, blocks};
 ghost use Rattle.disc.specs.Writes.{put-on, spent, puts, spent-by, row-writes, Lasting-writes, Left-tears, Others-stay, Gone-or-done};

@@ -1,7 +1,7 @@
 // Which discs are taken: a disc is looked through before anything is done with it, and refused with a number and a place.
 ghost use mathlib.Core.Path.{_≡_};
 ghost use mathlib.Core.Bool.{true, false};
-ghost use Prim.Native.Nat.{ℕ, _+_, _*_, _/_, _%_, _<_, _≤_};
+ghost use Prim.Native.Nat.{_+_, _*_, _/_, _%_, _<_, _≤_};
 ghost use lib.ListN.{length};
 ghost use Rattle.std.specs.Options.{Cases as BySome};
 ghost use Rattle.std.specs.Results.{Cases};
@@ -10,7 +10,7 @@ ghost use Rattle.std.specs.declared.option.Option.the-variants.{Some, None};
 ghost use Rattle.std.specs.declared.result.Result.the-variants.{Ok};
 ghost use Rattle.turns.specs.Ranges.{In-range};
 ghost use Rattle.disc.specs.Blocks.{at, blocks};
-ghost use Rattle.disc.specs.Layout.{plan-of, room, Fit};
+ghost use Rattle.disc.specs.Layout.{room, Fit};
 ghost use Rattle.disc.specs.Check.{number, refused-at, between, pages, named, disc-sizes, first-out, too-long, first-wrong, frames-for, length-refusal, name-refusal, size-refusal, block-refusal, frame-refusal, disc-refusal, refusal-of, Taken-bytes, Enough};
 use crate::layout::Plan;
 use crate::layout::current_of;

@@ -1,6 +1,6 @@
 // Where files lie on a disc, and what they hold. docs/LAYOUT.md explains the layout.
 ghost use mathlib.Core.Path.{_≡_};
-ghost use Prim.Native.Nat.{ℕ, _+_, _*_, _/_, _<_, _≤_, _^_};
+ghost use Prim.Native.Nat.{_+_, _*_, _/_, _<_, _≤_, _^_};
 ghost use lib.ListN.{length, getD};
 ghost use Rattle.turns.specs.Ranges.{In-range};
 ghost use Rattle.disc.specs.Blocks.{blocks};

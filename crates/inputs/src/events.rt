@@ -1,8 +1,8 @@
 // Rows of events as bytes: one input after the other, and where such a row is refused.
 ghost use mathlib.Core.Path.{_≡_};
 ghost use mathlib.Core.Bool.{true, false};
-ghost use Prim.Native.Nat.{ℕ, _+_, _^_, _<_, _≤_};
-ghost use lib.ListN.{length, getD};
+ghost use Prim.Native.Nat.{_+_, _^_, _<_, _≤_};
+ghost use lib.ListN.{length};
 ghost use Rattle.inputs.specs.Events.{after, input-at, ticks-at, broken, refusal-of, Written-out};
 ghost use Rattle.std.specs.declared.option.Option.the-variants.{None};
 use bytes::word;

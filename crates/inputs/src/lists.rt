@@ -1,7 +1,7 @@
 // Lists: the text from which discs are made. A line gives a size by its name, as `processes 2`, or the contents of a file, as `put 0 PATH`; `#` begins a comment.
 ghost use mathlib.Core.Path.{_≡_};
-ghost use Prim.Native.Nat.{ℕ, _+_, _≤_, _<_};
-ghost use lib.ListN.{length, getD};
+ghost use Prim.Native.Nat.{_+_, _≤_, _<_};
+ghost use lib.ListN.{length};
 ghost use Rattle.std.specs.Vec.{made};
 ghost use Rattle.inputs.specs.Lists.{part, span-at, size-entry, put-entry, entry-of, Ends-by, unsaid, Said, given, named, said, first-missing, is-strange, first-strange, finished, list-of, Paths-within};
 use crate::names::SizeName;

@@ -2,12 +2,11 @@
 // comment.
 ghost use mathlib.Core.Path.{_≡_};
 ghost use mathlib.Core.List.{_++_};
-ghost use Prim.Native.Nat.{ℕ, _+_, _≤_, _<_};
-ghost use lib.ListN.{length, getD};
+ghost use Prim.Native.Nat.{_+_, _≤_, _<_};
+ghost use lib.ListN.{length};
 ghost use Rattle.std.specs.Of.Vec.{vec-items};
 ghost use Rattle.std.specs.Vec.{made};
 ghost use Rattle.turns.specs.Numbers.{input-bytes};
-ghost use Rattle.inputs.specs.Lists.{part};
 ghost use Rattle.inputs.specs.Scripts.{byte-of, is-printable, is-numbered, key-of, is-over, ticks-line, key-line, cut-line, line-of, Script-read};
 use crate::lists::Span;
 use crate::lists::word_at;
