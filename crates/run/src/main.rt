@@ -1,8 +1,8 @@
 // run IMAGE EVENTS [FRAMES [BYTES]]: the machine on a disc image. A disc, frames or events that are refused are reported, and the image is left alone; the
 // machine itself is not carried out yet.
-use inputs::loading::Told;
-use inputs::loading::load_events;
 use inputs::refusals::check_all;
+use loading::Told;
+use loading::load_events;
 use std::env;
 use std::fs;
 

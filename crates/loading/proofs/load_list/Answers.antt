@@ -1,5 +1,5 @@
 use native.Mathlib.Omega.{arith}
-use Rattle.inputs.proofs.loading.load_list.Needs as need
+use Rattle.loading.proofs.load_list.Needs as need
 
 pub load-put-requires : need.load-put-requires
 load-put-requires c κs =
