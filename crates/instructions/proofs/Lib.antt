@@ -1,0 +1,3 @@
+pub mod Masks
+mod Formed
+pub mod Inverse

@@ -1,0 +1,9 @@
+use mathlib.Core.Path.{sym}
+use native.Mathlib.Omega.{arith}
+use lib.Chars.{codes}
+use Rattle.std.proofs.shelf.Lists.{getD-past}
+use Rattle.instructions.specs.Listing.{order-names}
+use Rattle.instructions.proofs.listing.order.Needs as need
+
+pub returns-in-rest : need.returns-in-rest
+returns-in-rest c = sym (getD-past order-names (c .args .set) (codes "?") (omega arith))
