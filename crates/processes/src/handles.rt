@@ -1,6 +1,6 @@
 // One process by itself: its state and its handles.
 ghost use mathlib.Core.Path.{_≡_};
-ghost use Prim.Native.Nat.{ℕ, _-_, _<_, _≤_};
+ghost use Prim.Native.Nat.{ℕ, _+_, _-_, _<_, _≤_};
 ghost use lib.ListN.{length, getD};
 ghost use Rattle.std.specs.declared.option.Option.the-variants.{None};
 ghost use Rattle.bytes.specs.Rows.{some, lowest-from};
@@ -89,7 +89,8 @@ impl Process {
     // The lowest of the first `count` handles, from `from` on, that leads to nothing; `count`, or `from` if that is more, if there is none.
     pub fn free_handle(&self, from: usize, count: usize) -> usize
         requires { ⌜ length (now self .handles) ≡ 16 ⌝ }
-        ensures { λ r. ⌜ r ≡ lowest-from (λ h. is-none (getD (now (self .entry) .handles) h None)) from (count - from) ⌝ }
+        ensures number { λ r. ⌜ r ≡ lowest-from (λ h. is-none (getD (now (self .entry) .handles) h None)) from (count - from) ⌝ }
+        ensures within { λ r. ⌜ r ≤ from + count ⌝ }
     {
         let mut h = from;
         while h < count && !self.is_unused(h) {

@@ -1,7 +1,7 @@
 // Looking at the tables: each answer is the world's.
 ghost use mathlib.Core.Path.{_≡_};
 ghost use mathlib.Core.Bool.{_&&_, _||_, not};
-ghost use Prim.Native.Nat.{ℕ, _-_, _<_};
+ghost use Prim.Native.Nat.{ℕ, _+_, _-_, _<_, _≤_};
 ghost use lib.ListN.{length};
 ghost use Rattle.bytes.specs.Rows.{some, lowest-from};
 ghost use Rattle.turns.specs.World.{runs-in, has-open, in-use, is-write-end, is-read-end, opened, writers, readers, free-process, free-open, free-pipe};
@@ -46,7 +46,8 @@ impl Tables {
     // The lowest place with nobody in it; the number of places if there is none.
     pub fn free_process(&self) -> usize
         requires { ⌜ Sound (now self) ⌝ }
-        ensures { λ r. ⌜ ((w : Worlds) → Tabled (now (self .entry)) w → r ≡ free-process core (now (self .entry) .sizes) w) ⌝ }
+        ensures number { λ r. ⌜ ((w : Worlds) → Tabled (now (self .entry)) w → r ≡ free-process core (now (self .entry) .sizes) w) ⌝ }
+        ensures within { λ r. ⌜ r ≤ now (self .entry) .sizes .processes ⌝ }
     {
         let mut p = 0;
         while p < self.sizes.processes as usize && !self.processes[p].is_free() {
@@ -58,7 +59,8 @@ impl Tables {
     // The lowest open thing from `from` on that is not in use; the number of open things, or `from` if that is more, if there is none.
     pub fn free_open(&self, from: usize) -> usize
         requires { ⌜ Sound (now self) ⌝ }
-        ensures { λ r. ⌜ ((w : Worlds) → Tabled (now (self .entry)) w → r ≡ lowest-from (λ k. not (in-use core w k)) from (now (self .entry) .sizes .opens - from)) ⌝ }
+        ensures number { λ r. ⌜ ((w : Worlds) → Tabled (now (self .entry)) w → r ≡ lowest-from (λ k. not (in-use core w k)) from (now (self .entry) .sizes .opens - from)) ⌝ }
+        ensures within { λ r. ⌜ r ≤ from + now (self .entry) .sizes .opens ⌝ }
     {
         let mut k = from;
         while k < self.sizes.opens as usize && self.in_use(k) {
@@ -122,7 +124,8 @@ impl Tables {
     // The lowest pipe with no end in use; the number of pipes if there is none.
     pub fn free_pipe(&self) -> usize
         requires { ⌜ Sound (now self) ⌝ }
-        ensures { λ r. ⌜ ((w : Worlds) → Tabled (now (self .entry)) w → r ≡ free-pipe core (now (self .entry) .sizes) w) ⌝ }
+        ensures number { λ r. ⌜ ((w : Worlds) → Tabled (now (self .entry)) w → r ≡ free-pipe core (now (self .entry) .sizes) w) ⌝ }
+        ensures within { λ r. ⌜ r ≤ now (self .entry) .sizes .pipes ⌝ }
     {
         let mut j = 0;
         while j < self.sizes.pipes as usize && self.has_end(j) {
@@ -168,7 +171,8 @@ impl Tables {
     // The lowest place with a child of `p` that has left; the number of places if there is none.
     pub fn left_child(&self, p: usize) -> usize
         requires { ⌜ Sound (now self) ⌝ }
-        ensures { λ r. ⌜ ((w : Worlds) → Tabled (now (self .entry)) w → r ≡ left-child core (now (self .entry) .sizes) w p) ⌝ }
+        ensures number { λ r. ⌜ ((w : Worlds) → Tabled (now (self .entry)) w → r ≡ left-child core (now (self .entry) .sizes) w p) ⌝ }
+        ensures within { λ r. ⌜ r ≤ now (self .entry) .sizes .processes ⌝ }
     {
         let mut i = 0;
         while i < self.sizes.processes as usize && !self.is_left_child(p, i) {
