@@ -61,3 +61,7 @@ pub record Tabled (t : Tables) (w : Worlds) : Type 0 where
   pub opens : (k : ℕ) → thing t k ≡ opened w k
   pub turn : t .turn ≡ w .turn
   pub used : t .used ≡ w .used
+
+-- somebody runs in place p
+abbrev pub Runs-at : Tables → ℕ → Type 0
+Runs-at t p = (p < t .sizes .processes) × (is-running (place t p .state) ≡ true)

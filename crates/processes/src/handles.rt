@@ -1,10 +1,11 @@
 // One process by itself: its state and its handles.
 ghost use mathlib.Core.Path.{_≡_};
 ghost use Prim.Native.Nat.{ℕ, _+_, _-_, _<_, _≤_};
-ghost use lib.ListN.{length, getD};
+ghost use lib.ListN.{length, getD, set};
 ghost use Rattle.std.specs.declared.option.Option.the-variants.{None};
 ghost use Rattle.bytes.specs.Rows.{some, lowest-from};
 ghost use Rattle.turns.specs.World.{is-free, is-running, is-left, is-none, leads-to};
+ghost use Rattle.processes.specs.Changes.{with-handles};
 use crate::Process;
 use turns::vocabulary::State;
 
@@ -44,11 +45,7 @@ impl Process {
         requires { ⌜ length (now self .handles) ≡ 16 ⌝ }
         ensures { λ r. ⌜ r ≡ getD (now (self .entry) .handles) h None ⌝ }
     {
-        if h < 16 {
-            self.handles[h]
-        } else {
-            None
-        }
+        if h < 16 { self.handles[h] } else { None }
     }
 
     // Whether handle `h` leads to the open thing `k`.
@@ -97,5 +94,14 @@ impl Process {
             h += 1;
         }
         h
+    }
+
+    // Handle `h` leads to this from now on.
+    pub(crate) fn set_handle(&mut self, h: usize, to: Option<u8>)
+        requires length { ⌜ length (now self .handles) ≡ 16 ⌝ }
+        requires there { ⌜ h < 16 ⌝ }
+        ensures { λ _. ⌜ now (self .exit) ≡ with-handles (now (self .entry)) (set (now (self .entry) .handles) h to) ⌝ }
+    {
+        self.handles[h] = to;
     }
 }
