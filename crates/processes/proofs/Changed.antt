@@ -2,27 +2,31 @@
 use mathlib.Core.Path.{_≡_, refl, sym, ap, subst, _∙_}
 use mathlib.Core.Logic.{⊎-elim}
 use mathlib.Core.Bool.{Bool, true, false}
-use mathlib.Core.List.{List}
-use Prim.Native.Nat.{ℕ, suc, _+_, _≤_, _<_}
+use mathlib.Core.List.{List, [], _∷_, map}
+use Prim.Native.Nat.{ℕ, zero, suc, _+_, _≤_, _<_}
+use lib.Dec.{eqb}
 use native.Mathlib.Omega.{arith}
 use lib.ListN.{length, getD, set}
 use Rattle.std.specs.declared.option.Option.{Option}
 use Rattle.std.specs.declared.option.Option.the-variants.{None}
-use Rattle.std.proofs.shelf.Lists.{length-set, getD-set-same, getD-set-other}
-use Rattle.std.proofs.shelf.Tests.{cases-eq, lt-ltb, le-ltb}
+use Rattle.std.proofs.shelf.Lists.{length-map, length-set, getD-set-same, getD-set-other}
+use Rattle.std.proofs.shelf.Tests.{cases-eq, cases-lt, both-ways, lt-ltb, le-ltb}
 use Rattle.bytes.specs.Rows.{pick}
 use Rattle.bytes.proofs.Tests.{pick-true, pick-false, getD-set-by}
-use Rattle.turns.specs.World.{process, nobody, opened, closed, is-running, with-process, with-open, with-handle, after-turn, passes, spends, moved}
+use Rattle.turns.specs.World.{process, nobody, opened, closed, is-running, with-process, with-open, with-handle, after-turn, passes, spends, moved, orphaned}
+use Rattle.turns.specs.declared.vocabulary.State.{State}
+use Rattle.turns.specs.declared.vocabulary.State.the-variants.{Free, Runs, Left}
 use Rattle.turns.specs.World as W
 use Rattle.turns.specs.declared.vocabulary.Sizes.{Sizes}
 use Rattle.turns.specs.declared.vocabulary.OpenThing.{OpenThing}
 use Rattle.rv32.specs.declared.cpu.Cpu.{Cpu}
 use Rattle.rv32.specs.Act.{core}
-use Rattle.rv32.specs.Execute.{answered}
+use Rattle.rv32.specs.Execute.{answered, fresh}
 use Rattle.processes.specs.declared.Process.{Process}
 use Rattle.processes.specs.declared.Tables.{Tables}
 use Rattle.processes.specs.Tabled.{Sound, Tabled, Same, Worlds, Runs-at, place, thing, blank, shut}
-use Rattle.processes.specs.Changes.{with-place, with-thing, with-turn, with-cpu, with-handles}
+use Rattle.processes.specs.Changes.{with-place, with-thing, with-turn, with-cpu, with-handles, without-parent, child, begun}
+use Rattle.processes.proofs.Rows.{getD-past}
 
 -- PLACES
 
@@ -80,6 +84,102 @@ tabled-handle t w p i o s h r l =
           (cases-eq k i);
       count = λ e. length-set (process core w p .handles) i o ∙ h .each p .count e;
     })
+
+-- a place with nobody who runs, and no handles
+pub tabled-away : (t : Tables) (w : Worlds) (p : ℕ) (q : Process) (v : W.Process Cpu) → Sound t → Tabled t w → p < t .sizes .processes →
+    q .state ≡ v .state → q .parent ≡ v .parent → is-running (q .state) ≡ false → ((h : ℕ) → getD (q .handles) h None ≡ None) → v .handles ≡ [] → Tabled (with-place t p q) (with-process w p v)
+tabled-away t w p q v s h l a b e n m =
+    tabled-place t w p q v s h l
+    (record {
+      state = a;
+      parent = b;
+      cpu = λ r. absurd (both-ways (is-running (q .state)) e r);
+      handles = λ k. n k ∙ ap (λ (hs : List (Option ℕ)). getD hs k None) (sym m);
+      count = λ r. absurd (both-ways (is-running (q .state)) e r);
+    })
+
+running : (x : State) → is-running x ≡ true → Runs ≡ x
+unfolding is-running
+running Free e = absurd (both-ways false refl e)
+running Runs e = refl
+running (Left n) e = absurd (both-ways false refl e)
+
+pub tabled-child : (t : Tables) (w : Worlds) (p q : ℕ) (c : Cpu) → Sound t → Tabled t w → Runs-at t p → q < t .sizes .processes → c ≡ answered (place t p .cpu) 0 →
+    Tabled (with-place t q (record { state = Runs; parent = p; cpu = c; handles = place t p .handles })) (with-process w q (child w p))
+tabled-child t w p q c s h r l e =
+    tabled-place t w q _ _ s h l
+    (record {
+      state = refl;
+      parent = refl;
+      cpu = λ _. e ∙ ap (λ (x : Cpu). answered x 0) (h .each p .cpu (r .1));
+      handles = h .each p .handles;
+      count = λ _. h .each p .count (r .1);
+    })
+
+pub tabled-begun : (t : Tables) (w : Worlds) (p : ℕ) (c : Cpu) (m : List ℕ) → Sound t → Tabled t w → Runs-at t p → c ≡ fresh (t .sizes .memory) →
+    Tabled (with-place t p (with-cpu (place t p) c)) (with-process w p (begun (t .sizes .memory) m (process core w p)))
+tabled-begun t w p c m s h r e =
+    tabled-place t w p _ _ s h (r .0)
+    (record {
+      state = sym (running (place t p .state) (r .1));
+      parent = h .each p .parent;
+      cpu = λ _. e;
+      handles = h .each p .handles;
+      count = h .each p .count;
+    })
+
+-- ORPHANS
+
+pick-same : (b : Bool) (n : ℕ) → pick b n n ≡ n
+unfolding pick
+pick-same true n = refl
+pick-same false n = refl
+
+orphan-at : (p q : ℕ) (vs : List (W.Process Cpu)) → getD (map (W.without-parent p) vs) q (nobody core) ≡ W.without-parent p (getD vs q (nobody core))
+unfolding W.without-parent W.with-parent nobody
+orphan-at p q [] = ap (λ n. record { state = Free; parent = n; cpu = core .fresh 0; memory = []; handles = [] }) (sym (pick-same (eqb 0 p) 0))
+orphan-at p zero (v ∷ vs) = refl
+orphan-at p (suc q) (v ∷ vs) = orphan-at p q vs
+
+orphan-same : (z : Sizes) (p : ℕ) (q : Process) (v : W.Process Cpu) → Same z q v → Same z (without-parent p q) (W.without-parent p v)
+unfolding W.without-parent W.with-parent
+orphan-same z p q v e =
+    record { state = e .state; parent = ap (λ n. pick (eqb n p) 0 n) (e .parent); cpu = e .cpu; handles = e .handles; count = e .count }
+
+-- all places but those past the last have lost p for a parent, and those have none
+pub lost-all : (t u : Tables) (p : ℕ) → Sound t → ((q : ℕ) → q < 64 → place u q ≡ without-parent p (place t q)) → ((q : ℕ) → 64 ≤ q → place u q ≡ place t q) →
+    (q : ℕ) → place u q ≡ without-parent p (place t q)
+lost-all t u p s f g q =
+    ⊎-elim (f q)
+    (λ l.
+    let e : place t q ≡ blank = getD-past (t .processes) q blank (omega (arith, s .places)) in
+    g q l ∙ e ∙ ap (λ n. record { state = Free; parent = n; cpu = blank .cpu; handles = [] }) (sym (pick-same (eqb 0 p) 0)) ∙ ap (without-parent p) (sym e))
+    (cases-lt q 64)
+
+pub sound-orphaned : (t u : Tables) (p : ℕ) → Sound t → ((q : ℕ) → place u q ≡ without-parent p (place t q)) → length (u .processes) ≡ length (t .processes) →
+    u .sizes ≡ t .sizes → u .opens ≡ t .opens → u .turn ≡ t .turn → u .used ≡ t .used → Sound u
+sound-orphaned t u p s f l z o a b =
+    record {
+      sizes = rw z (s .sizes);
+      places = l ∙ s .places;
+      handles = λ q n. ap (λ (x : Process). length (x .handles)) (f q) ∙ s .handles q n;
+      opens = rw o (s .opens);
+      turn = rw (z, a) (s .turn);
+      used = rw (z, b) (s .used);
+    }
+
+pub tabled-orphaned : (t u : Tables) (p : ℕ) → ((q : ℕ) → place u q ≡ without-parent p (place t q)) →
+    u .sizes ≡ t .sizes → u .opens ≡ t .opens → u .turn ≡ t .turn → u .used ≡ t .used → (w : Worlds) → Tabled t w → Tabled u (orphaned w p)
+unfolding orphaned W.with-processes process opened
+tabled-orphaned t u p f z o a b w h =
+    record {
+      places = length-map (w .processes) (W.without-parent p) ∙ h .places ∙ ap (λ (y : Sizes). y .processes) (sym z);
+      each = λ q. rw (z, f q, orphan-at p q (w .processes)) (orphan-same (t .sizes) p _ _ (h .each q));
+      ends = h .ends ∙ ap (λ (y : Sizes). y .opens) (sym z);
+      opens = λ k. ap (λ (os : List OpenThing). getD os k shut) o ∙ h .opens k;
+      turn = a ∙ h .turn;
+      used = b ∙ h .used;
+    }
 
 -- OPEN THINGS
 

@@ -2,6 +2,7 @@
 // pipes or screens are here: only numbers of them. `Tabled` (specs/Tabled) says of which worlds the tables are.
 mod changing;
 mod handles;
+mod living;
 mod looking;
 mod passing;
 mod reading;
