@@ -1,3 +1,5 @@
 pub mod Rows
 pub mod Seeing
 pub mod Changed
+pub mod Begun
+pub mod Called

@@ -1,14 +1,14 @@
 -- One thing of the tables changed, all else as it was. Assumes nothing: these are definitions.
-use mathlib.Core.List.{List}
+use mathlib.Core.List.{List, _∷_}
 use Prim.Native.Nat.{ℕ}
 use lib.Dec.{eqb}
 use lib.ListN.{set, replicate}
 use Rattle.bytes.specs.Rows.{pick}
 use Rattle.turns.specs.World.{process}
 use Rattle.turns.specs.World as W
-use Rattle.std.specs.declared.option.Option.the-variants.{None}
+use Rattle.std.specs.declared.option.Option.the-variants.{Some, None}
 use Rattle.turns.specs.declared.vocabulary.State.{State}
-use Rattle.turns.specs.declared.vocabulary.State.the-variants.{Runs}
+use Rattle.turns.specs.declared.vocabulary.State.the-variants.{Free, Runs}
 use Rattle.std.specs.declared.option.Option.{Option}
 use Rattle.turns.specs.declared.vocabulary.OpenThing.{OpenThing}
 use Rattle.rv32.specs.declared.cpu.Cpu.{Cpu}
@@ -40,6 +40,14 @@ without-parent p q = record { state = q .state; parent = pick (eqb (q .parent) p
 -- a place in which nobody runs: no handles are left, and no registers are looked at
 abbrev pub away : State → ℕ → Process → Process
 away s p q = record { state = s; parent = p; cpu = q .cpu; handles = replicate 16 None }
+
+-- a place with nobody in it, before anybody was
+abbrev pub empty : Process
+empty = record { state = Free; parent = 0; cpu = fresh 0; handles = replicate 16 None }
+
+-- the first process, with n bytes of memory: handles 0, 1 and 2 lead to open thing 0
+abbrev pub first : ℕ → Process
+first n = record { state = Runs; parent = 0; cpu = fresh n; handles = Some 0 ∷ Some 0 ∷ Some 0 ∷ replicate 13 None }
 
 -- IN THE WORLD
 

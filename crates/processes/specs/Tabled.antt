@@ -6,12 +6,13 @@ use Prim.Native.Nat.{ℕ, _<_}
 use lib.ListN.{length, getD}
 use Rattle.std.specs.declared.option.Option.the-variants.{Some, None}
 use Rattle.turns.specs.Ranges.{In-range}
-use Rattle.turns.specs.World.{World, process, opened, closed, is-running}
+use Rattle.turns.specs.World.{World, Done, process, opened, closed, is-running}
 use Rattle.turns.specs.World as W
 use Rattle.turns.specs.declared.vocabulary.Sizes.{Sizes}
 use Rattle.turns.specs.declared.vocabulary.State.the-variants.{Free, Runs, Left}
 use Rattle.turns.specs.declared.vocabulary.End.the-variants.{Nothing}
 use Rattle.turns.specs.declared.vocabulary.OpenThing.{OpenThing}
+use Rattle.turns.specs.declared.vocabulary.Outcome.{Outcome}
 use Rattle.rv32.specs.declared.cpu.Cpu.{Cpu}
 use Rattle.rv32.specs.Act.{core}
 use Rattle.processes.specs.declared.Process.{Process}
@@ -65,3 +66,8 @@ pub record Tabled (t : Tables) (w : Worlds) : Type 0 where
 -- somebody runs in place p
 abbrev pub Runs-at : Tables → ℕ → Type 0
 Runs-at t p = (p < t .sizes .processes) × (is-running (place t p .state) ≡ true)
+
+-- a call has left these tables and this outcome
+pub record Came (t : Tables) (o : Outcome) (d : Done Cpu) : Type 0 where
+  pub outcome : o ≡ d .outcome
+  pub tabled : Tabled t (d .world)

@@ -73,7 +73,7 @@ impl Process {
     }
 
     // Whether handle `h` leads to nothing.
-    fn is_unused(&self, h: usize) -> bool
+    pub(crate) fn is_unused(&self, h: usize) -> bool
         requires { ⌜ length (now self .handles) ≡ 16 ⌝ }
         ensures { λ r. ⌜ r ≡ is-none (getD (now (self .entry) .handles) h None) ⌝ }
     {

@@ -86,7 +86,7 @@ impl Tables {
     }
 
     // Nobody is in place `p` from now on.
-    fn make_free(&mut self, p: usize)
+    pub(crate) fn make_free(&mut self, p: usize)
         requires sound { ⌜ Sound (now self) ⌝ }
         requires there { ⌜ p < now self .sizes .processes ⌝ }
         ensures sound { λ _. ⌜ Sound (now (self .exit)) ⌝ }

@@ -5,9 +5,9 @@ ghost use Prim.Native.Nat.{ℕ, _+_, _-_, _<_, _≤_};
 ghost use lib.ListN.{length};
 ghost use Rattle.bytes.specs.Rows.{some, lowest-from};
 ghost use Rattle.turns.specs.World.{runs-in, has-open, in-use, is-write-end, is-read-end, opened, writers, readers, free-process, free-open, free-pipe};
-ghost use Rattle.turns.specs.World.{is-child, is-left, left-child, process};
+ghost use Rattle.turns.specs.World.{is-child, is-left, is-running, left-child, process};
 ghost use Rattle.rv32.specs.Act.{core};
-ghost use Rattle.processes.specs.Tabled.{Sound, Tabled, Worlds};
+ghost use Rattle.processes.specs.Tabled.{Sound, Tabled, Worlds, place};
 use crate::Tables;
 use turns::vocabulary::End;
 
@@ -16,7 +16,8 @@ impl Tables {
     pub fn runs_in(&self, p: usize) -> bool
         requires sound { ⌜ Sound (now self) ⌝ }
         requires there { ⌜ p < 64 ⌝ }
-        ensures { λ r. ⌜ ((w : Worlds) → Tabled (now (self .entry)) w → r ≡ runs-in core w p) ⌝ }
+        ensures seen { λ r. ⌜ r ≡ is-running (place (now (self .entry)) p .state) ⌝ }
+        ensures runs { λ r. ⌜ ((w : Worlds) → Tabled (now (self .entry)) w → r ≡ runs-in core w p) ⌝ }
     {
         self.processes[p].runs()
     }

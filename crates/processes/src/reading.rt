@@ -1,12 +1,13 @@
 // What handles lead to, and what names stand for.
 ghost use mathlib.Core.Path.{_≡_};
+ghost use mathlib.Core.Bool.{true, not};
 ghost use Prim.Native.Nat.{ℕ, _+_, _-_, _<_, _≤_};
 ghost use lib.ListN.{length, getD};
 ghost use Rattle.std.specs.declared.option.Option.the-variants.{None};
 ghost use Rattle.bytes.specs.Rows.{lowest-from};
 ghost use Rattle.turns.specs.World.{handle-of, end-behind, end-of, opened, is-none, process, named};
 ghost use Rattle.rv32.specs.Act.{core};
-ghost use Rattle.processes.specs.Tabled.{Sound, Tabled, Worlds, thing};
+ghost use Rattle.processes.specs.Tabled.{Sound, Tabled, Worlds, Runs-at, thing};
 use crate::Tables;
 use turns::vocabulary::End;
 use turns::vocabulary::OpenThing;
@@ -20,6 +21,16 @@ impl Tables {
         ensures { λ r. ⌜ ((w : Worlds) → Tabled (now (self .entry)) w → r ≡ handle-of core w p h) ⌝ }
     {
         self.processes[p].handle(h)
+    }
+
+    // Whether handle `h` of process `p`, which runs, leads to an open thing.
+    pub fn has_handle(&self, p: usize, h: usize) -> bool
+        requires sound { ⌜ Sound (now self) ⌝ }
+        requires runs { ⌜ Runs-at (now self) p ⌝ }
+        ensures leads { λ r. ⌜ ((w : Worlds) → Tabled (now (self .entry)) w → r ≡ not (is-none (handle-of core w p h))) ⌝ }
+        ensures within { λ r. ⌜ (r ≡ true → h < now (self .entry) .sizes .handles) ⌝ }
+    {
+        h < self.sizes.handles as usize && !self.processes[p].is_unused(h)
     }
 
     // The open thing `k`.

@@ -4,4 +4,4 @@ use Rattle.processes.proofs.Tables.runs_in.Needs as need
 
 pub returns : need.returns
 unfolding runs-in
-returns c w h = c .runs .ensures ∙ ap is-running (h .each (c .args .p) .state)
+returns c = record { seen = c .runs .ensures; runs = λ w h. c .runs .ensures ∙ ap is-running (h .each (c .args .p) .state) }
