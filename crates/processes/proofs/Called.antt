@@ -1,14 +1,15 @@
 -- What the calls of the tables come to. Assumes nothing.
 use mathlib.Core.Path.{_≡_, refl, sym, ap, subst, _∙_}
 use mathlib.Core.Bool.{Bool, true, false, _||_, not}
-use Prim.Native.Nat.{ℕ, suc, _+_, _*_, _≤_, _<_}
+use Prim.Native.Nat.{ℕ, suc, _+_, _-_, _*_, _≤_, _<_}
 use native.Mathlib.Omega.{arith}
 use Rattle.std.proofs.shelf.Tests.{lt-ltb, le-ltb, lt-leb, le-leb}
-use Rattle.std.specs.declared.option.Option.the-variants.{None}
+use Rattle.std.specs.declared.option.Option.the-variants.{Some, None}
 use Rattle.processes.proofs.Rows.{getD-past}
-use Rattle.bytes.specs.Rows.{pick, some}
+use Rattle.bytes.specs.Rows.{pick, some, lowest, lowest-from}
 use Rattle.bytes.proofs.Tests.{pick-true, pick-false}
-use Rattle.turns.specs.World.{Done, process, nobody, with-process, waits, left-child, left-with, is-child, turned-down, answers, stays, no, is-none, handle-of, with-handle, closes, copies}
+use Rattle.turns.specs.World.{Done, process, nobody, with-process, waits, left-child, left-with, is-child, turned-down, answers, stays, no, is-none, handle-of, with-handle, closes, copies, opens, named, is-nothing, free-open, free-handle, with-open}
+use Rattle.turns.specs.declared.vocabulary.End.{End}
 use Rattle.turns.specs.declared.vocabulary.Outcome.the-variants.{Answer, Stays}
 use Rattle.turns.specs.declared.vocabulary.Sizes.{Sizes}
 use Rattle.rv32.specs.declared.cpu.Cpu.{Cpu}
@@ -76,3 +77,27 @@ module _ (w : Worlds) (p h : ℕ) where
   pub copies-one : (z : Sizes) (g : ℕ) → is-none (handle-of core w p h) ≡ false → g < z .handles → answers (with-handle core w p g (handle-of core w p h)) g ≡ copies core z w p h g
   unfolding copies
   copies-one z g e l = sym (pick-false _ _ _ (rw (e, lt-leb _ _ l)))
+
+-- OPEN
+
+-- the lowest of all, as a search from 0 on finds it
+pub from-first : (test : ℕ → Bool) (n k : ℕ) → k ≡ lowest-from test 0 (n - 0) → k ≡ lowest test n
+from-first test n k e = let m : n - 0 ≡ n = omega arith in e ∙ ap (lowest-from test 0) m
+
+module _ (z : Sizes) (w : Worlds) (p f : ℕ) where
+  pub opens-none : (e : End) → e ≡ named z w f → true ≡ is-nothing e → turned-down w ≡ opens core z w p f
+  unfolding opens
+  opens-none e n t = sym (pick-true _ _ _ (rw (← n, ← t)))
+
+  pub opens-full : (k : ℕ) → k ≡ free-open core z w → z .opens ≤ k → turned-down w ≡ opens core z w p f
+  unfolding opens
+  opens-full k a l = sym (pick-true _ _ _ (rw (← a, le-leb _ _ l) (or-true _)))
+
+  pub opens-held : (h : ℕ) → h ≡ free-handle z (process core w p) → z .handles ≤ h → turned-down w ≡ opens core z w p f
+  unfolding opens
+  opens-held h a l = sym (pick-true _ _ _ (rw (← a, le-leb _ _ l) (ap (λ b. is-nothing (named z w f) || b) (or-true _) ∙ or-true _)))
+
+  pub opens-one : (e : End) (k h : ℕ) → e ≡ named z w f → false ≡ is-nothing e → k ≡ free-open core z w → k < z .opens → h ≡ free-handle z (process core w p) → h < z .handles →
+      answers (with-handle core (with-open w k (record { end = e; at = 0 })) p h (Some k)) h ≡ opens core z w p f
+  unfolding opens
+  opens-one e k h n t a l b m = rw (← n, ← a, ← b) (sym (pick-false _ _ _ (rw (← t, lt-leb _ _ l, lt-leb _ _ m))))

@@ -41,6 +41,13 @@ sound-place t p q s l =
       used = s .used;
     }
 
+-- a place whose state stays changes no state
+pub states-kept : (t : Tables) (p : ℕ) (q : Process) → q .state ≡ place t p .state → (r : ℕ) → place (with-place t p q) r .state ≡ place t r .state
+states-kept t p q e r = getD-set-by (λ (x : Process). x .state ≡ place t r .state) (t .processes) p r q blank (λ (i : r ≡ p). rw i e) refl
+
+pub runs-kept : (t u : Tables) (p : ℕ) → u .sizes ≡ t .sizes → ((q : ℕ) → place u q .state ≡ place t q .state) → Runs-at t p → Runs-at u p
+runs-kept t u p z f r = (subst (λ (y : Sizes). p < y .processes) (sym z) (r .0), ap is-running (f p) ∙ r .1)
+
 -- one place changes in the tables, and in the world
 pub tabled-place : (t : Tables) (w : Worlds) (p : ℕ) (q : Process) (v : W.Process Cpu) → Sound t → Tabled t w → p < t .sizes .processes → Same (t .sizes) q v →
     Tabled (with-place t p q) (with-process w p v)

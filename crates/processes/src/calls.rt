@@ -2,11 +2,14 @@
 ghost use mathlib.Core.Path.{_≡_};
 ghost use Prim.Native.Nat.{ℕ, _<_};
 ghost use lib.ListN.{length};
-ghost use Rattle.turns.specs.World.{waits, closes, copies, left-with};
+ghost use Rattle.turns.specs.World.{waits, closes, copies, opens, left-with, is-nothing};
 ghost use Rattle.rv32.specs.Act.{core};
 ghost use Rattle.processes.specs.Tabled.{Sound, Tabled, Worlds, Runs-at, Came};
 use crate::Process;
 use crate::Tables;
+use crate::reading::end_named;
+use turns::vocabulary::End;
+use turns::vocabulary::OpenThing;
 use turns::vocabulary::Outcome;
 use turns::vocabulary::State;
 
@@ -79,5 +82,42 @@ impl Tables {
         let to = self.handle_of(p, h as usize);
         self.set_handle(p, g as usize, to);
         Outcome::Answer(g)
+    }
+
+    // Open: the lowest free handle of `p`, which runs, leads to the lowest free open thing, for the file or the screen of this name, from its beginning.
+    pub fn open(&mut self, p: usize, name: u32) -> Outcome
+        requires sound { ⌜ Sound (now self) ⌝ }
+        requires runs { ⌜ Runs-at (now self) p ⌝ }
+        ensures sound { λ _. ⌜ Sound (now (self .exit)) ⌝ }
+        ensures sizes { λ _. ⌜ now (self .exit) .sizes ≡ now (self .entry) .sizes ⌝ }
+        ensures done { λ r. ⌜ ((w : Worlds) → Tabled (now (self .entry)) w → length (w .files) ≡ now (self .entry) .sizes .files → Came (now (self .exit)) r (opens core (now (self .entry) .sizes) w p name)) ⌝ }
+    {
+        let end = end_named(self.sizes, name);
+        if is_nothing(end) {
+            return Outcome::Answer(NO);
+        }
+        let k = self.free_open(0);
+        if k >= self.sizes.opens as usize {
+            return Outcome::Answer(NO);
+        }
+        let h = self.free_handle(p, 0);
+        if h >= self.sizes.handles as usize {
+            return Outcome::Answer(NO);
+        }
+        self.set_open(k, OpenThing { end, at: 0 });
+        self.set_handle(p, h, Some(k as u8));
+        Outcome::Answer(h as u32)
+    }
+}
+
+fn is_nothing(end: End) -> bool
+    ensures { λ r. ⌜ r ≡ is-nothing end ⌝ }
+{
+    match end {
+        End::Nothing => true,
+        End::Screen(_) => false,
+        End::File(_) => false,
+        End::WriteEnd(_) => false,
+        End::ReadEnd(_) => false,
     }
 }

@@ -4,7 +4,7 @@ ghost use Prim.Native.Nat.{ℕ, _+_, _<_};
 ghost use Rattle.turns.specs.World.{process, with-process, with-cpu, with-handle, with-open, moved};
 ghost use Rattle.rv32.specs.Act.{core};
 ghost use Rattle.rv32.specs.Execute.{answered};
-ghost use Rattle.processes.specs.Tabled.{Sound, Tabled, Worlds, Runs-at, thing};
+ghost use Rattle.processes.specs.Tabled.{Sound, Tabled, Worlds, Runs-at, place, thing};
 use crate::Tables;
 use rv32::Cpu;
 use turns::vocabulary::OpenThing;
@@ -16,6 +16,7 @@ impl Tables {
         requires there { ⌜ p < now self .sizes .processes ⌝ }
         ensures sound { λ _. ⌜ Sound (now (self .exit)) ⌝ }
         ensures sizes { λ _. ⌜ now (self .exit) .sizes ≡ now (self .entry) .sizes ⌝ }
+        ensures states { λ _. ⌜ ((q : ℕ) → place (now (self .exit)) q .state ≡ place (now (self .entry)) q .state) ⌝ }
         ensures tabled { λ _. ⌜ ((w : Worlds) → Tabled (now (self .entry)) w → Tabled (now (self .exit)) (with-process w p (with-cpu (process core w p) cpu))) ⌝ }
     {
         self.processes[p].cpu = cpu;
@@ -27,6 +28,7 @@ impl Tables {
         requires runs { ⌜ Runs-at (now self) p ⌝ }
         ensures sound { λ _. ⌜ Sound (now (self .exit)) ⌝ }
         ensures sizes { λ _. ⌜ now (self .exit) .sizes ≡ now (self .entry) .sizes ⌝ }
+        ensures states { λ _. ⌜ ((q : ℕ) → place (now (self .exit)) q .state ≡ place (now (self .entry)) q .state) ⌝ }
         ensures tabled { λ _. ⌜ ((w : Worlds) → Tabled (now (self .entry)) w → Tabled (now (self .exit)) (with-process w p (with-cpu (process core w p) (answered (process core w p .cpu) value)))) ⌝ }
     {
         self.processes[p].cpu.answer(value);
@@ -39,6 +41,7 @@ impl Tables {
         requires there { ⌜ h < now self .sizes .handles ⌝ }
         ensures sound { λ _. ⌜ Sound (now (self .exit)) ⌝ }
         ensures sizes { λ _. ⌜ now (self .exit) .sizes ≡ now (self .entry) .sizes ⌝ }
+        ensures states { λ _. ⌜ ((q : ℕ) → place (now (self .exit)) q .state ≡ place (now (self .entry)) q .state) ⌝ }
         ensures tabled { λ _. ⌜ ((w : Worlds) → Tabled (now (self .entry)) w → Tabled (now (self .exit)) (with-handle core w p h to)) ⌝ }
     {
         self.processes[p].set_handle(h, to);
@@ -50,6 +53,7 @@ impl Tables {
         requires there { ⌜ k < now self .sizes .opens ⌝ }
         ensures sound { λ _. ⌜ Sound (now (self .exit)) ⌝ }
         ensures sizes { λ _. ⌜ now (self .exit) .sizes ≡ now (self .entry) .sizes ⌝ }
+        ensures states { λ _. ⌜ ((q : ℕ) → place (now (self .exit)) q .state ≡ place (now (self .entry)) q .state) ⌝ }
         ensures tabled { λ _. ⌜ ((w : Worlds) → Tabled (now (self .entry)) w → Tabled (now (self .exit)) (with-open w k thing)) ⌝ }
     {
         self.opens[k] = thing;
@@ -62,6 +66,7 @@ impl Tables {
         requires small { ⌜ thing (now self) k .at + n < 4294967296 ⌝ }
         ensures sound { λ _. ⌜ Sound (now (self .exit)) ⌝ }
         ensures sizes { λ _. ⌜ now (self .exit) .sizes ≡ now (self .entry) .sizes ⌝ }
+        ensures states { λ _. ⌜ ((q : ℕ) → place (now (self .exit)) q .state ≡ place (now (self .entry)) q .state) ⌝ }
         ensures tabled { λ _. ⌜ ((w : Worlds) → Tabled (now (self .entry)) w → Tabled (now (self .exit)) (moved w k n)) ⌝ }
     {
         self.opens[k].at += n;

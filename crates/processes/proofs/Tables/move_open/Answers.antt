@@ -7,5 +7,6 @@ returns c =
     record {
       sound = sound-thing (c .args .self .now) (c .args .k) _ (c .pre .sound);
       sizes = refl;
+      states = λ q. refl;
       tabled = λ w h. tabled-moved (c .args .self .now) w (c .args .k) (c .args .n) (c .pre .sound) h (c .pre .there);
     }

@@ -7,5 +7,6 @@ returns c =
     record {
       sound = sound-thing (c .args .self .now) (c .args .k) _ (c .pre .sound);
       sizes = refl;
+      states = λ q. refl;
       tabled = λ w h. tabled-thing (c .args .self .now) w (c .args .k) (c .args .thing) (c .args .thing) (c .pre .sound) h (c .pre .there) refl;
     }
