@@ -8,13 +8,14 @@ use Rattle.std.specs.declared.option.Option.the-variants.{Some, None}
 use Rattle.processes.proofs.Rows.{getD-past}
 use Rattle.bytes.specs.Rows.{pick, some, lowest, lowest-from}
 use Rattle.bytes.proofs.Tests.{pick-true, pick-false}
-use Rattle.turns.specs.World.{Done, process, nobody, with-process, waits, left-child, left-with, is-child, turned-down, answers, stays, no, is-none, handle-of, with-handle, closes, copies, opens, named, is-nothing, free-open, free-handle, with-open}
+use Rattle.turns.specs.World.{Done, process, nobody, with-process, waits, left-child, left-with, is-child, turned-down, answers, stays, no, is-none, handle-of, with-handle, closes, copies, opens, forks, free-process, named, is-nothing, free-open, free-handle, with-open}
 use Rattle.turns.specs.declared.vocabulary.End.{End}
 use Rattle.turns.specs.declared.vocabulary.Outcome.the-variants.{Answer, Stays}
 use Rattle.turns.specs.declared.vocabulary.Sizes.{Sizes}
 use Rattle.rv32.specs.declared.cpu.Cpu.{Cpu}
 use Rattle.rv32.specs.Act.{core}
 use Rattle.processes.specs.Tabled.{Worlds, Tabled, Came, Runs-at}
+use Rattle.processes.specs.Changes.{child}
 use Rattle.processes.specs.declared.Tables.{Tables}
 
 or-true : (b : Bool) → (b || true) ≡ true
@@ -37,6 +38,14 @@ module _ (t : Tables) (d : Done Cpu) where
   answered v a b h q e = subst (Came t (Answer a)) e (record { outcome = ap Answer q; tabled = h })
 
 module _ (z : Sizes) (w : Worlds) (p : ℕ) where
+  pub forks-none : (q : ℕ) → q ≡ free-process core z w → z .processes ≤ q → turned-down w ≡ forks core z w p
+  unfolding forks
+  forks-none q e l = sym (pick-true _ _ _ (le-leb _ _ (omega (arith, e))))
+
+  pub forks-one : (q : ℕ) → q ≡ free-process core z w → q < z .processes → answers (with-process w q (child w p)) (suc q) ≡ forks core z w p
+  unfolding forks
+  forks-one q e l = rw (← e) (sym (pick-false _ _ _ (lt-leb _ _ l)))
+
   pub waits-alone : false ≡ some (is-child core w p) (z .processes) → turned-down w ≡ waits core z w p
   unfolding waits
   waits-alone e = sym (pick-true _ _ _ (ap not (sym e)))

@@ -3,3 +3,4 @@ pub mod Seeing
 pub mod Changed
 pub mod Begun
 pub mod Called
+pub mod Standing

@@ -2,7 +2,7 @@
 ghost use mathlib.Core.Path.{_≡_};
 ghost use Prim.Native.Nat.{ℕ, _<_};
 ghost use lib.ListN.{length};
-ghost use Rattle.turns.specs.World.{waits, closes, copies, opens, left-with, is-nothing};
+ghost use Rattle.turns.specs.World.{forks, waits, closes, copies, opens, left-with, is-nothing};
 ghost use Rattle.rv32.specs.Act.{core};
 ghost use Rattle.processes.specs.Tabled.{Sound, Tabled, Worlds, Runs-at, Came};
 use crate::Process;
@@ -30,6 +30,22 @@ impl Process {
 }
 
 impl Tables {
+    // Fork: the lowest free place gets a child of `p`, which runs; the answer is its place + 1. Its memory is the caller's to copy.
+    pub fn fork(&mut self, p: usize) -> Outcome
+        requires sound { ⌜ Sound (now self) ⌝ }
+        requires runs { ⌜ Runs-at (now self) p ⌝ }
+        ensures sound { λ _. ⌜ Sound (now (self .exit)) ⌝ }
+        ensures sizes { λ _. ⌜ now (self .exit) .sizes ≡ now (self .entry) .sizes ⌝ }
+        ensures done { λ r. ⌜ ((w : Worlds) → Tabled (now (self .entry)) w → Came (now (self .exit)) r (forks core (now (self .entry) .sizes) w p)) ⌝ }
+    {
+        let q = self.free_process();
+        if q >= self.sizes.processes as usize {
+            return Outcome::Answer(NO);
+        }
+        self.begin_child(p, q);
+        Outcome::Answer(q as u32 + 1)
+    }
+
     // Wait: of the children of `p` that have left the one in the lowest place becomes free, and its number and place are the answer; while all run it stays.
     pub fn wait(&mut self, p: usize) -> Outcome
         requires { ⌜ Sound (now self) ⌝ }

@@ -3,6 +3,7 @@
 mod calls;
 mod changing;
 mod handles;
+pub mod laws;
 mod living;
 mod looking;
 mod passing;
