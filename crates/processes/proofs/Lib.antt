@@ -1,0 +1,6 @@
+pub mod Rows
+pub mod Seeing
+pub mod Changed
+pub mod Begun
+pub mod Called
+pub mod Standing

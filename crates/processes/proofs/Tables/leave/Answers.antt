@@ -1,0 +1,22 @@
+use mathlib.Core.Path.{_≡_, refl, ap}
+use native.Mathlib.Omega.{arith}
+use Rattle.std.specs.declared.option.Option.the-variants.{None}
+use Rattle.bytes.proofs.Tests.{getD-all}
+use Rattle.turns.specs.World.{leaves, orphaned, is-running}
+use Rattle.turns.specs.declared.vocabulary.Sizes.{Sizes}
+use Rattle.processes.proofs.Changed.{sound-place, tabled-away}
+use Rattle.processes.proofs.Tables.leave.Needs as need
+
+pub returns : need.returns
+unfolding leaves is-running
+returns c =
+    let u = c .orphan .last .self in
+    let e : u .sizes .processes ≡ c .args .self .now .sizes .processes = ap (λ (z : Sizes). z .processes) (c .orphan .ensures .sizes) in
+    rw (c .put-away .ensures)
+    (record {
+      sound = sound-place u (c .args .p) _ (c .orphan .ensures .sound) refl;
+      sizes = c .orphan .ensures .sizes;
+      tabled = λ w h.
+          tabled-away u (orphaned w (c .args .p)) (c .args .p) _ _ (c .orphan .ensures .sound) (c .orphan .ensures .tabled w h) (omega (arith, e, c .pre .there)) refl
+          (h .each (c .args .p) .parent) refl (λ k. getD-all 16 k None) refl;
+    })

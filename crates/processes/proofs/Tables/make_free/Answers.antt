@@ -1,0 +1,16 @@
+use mathlib.Core.Path.{refl}
+use Rattle.std.specs.declared.option.Option.the-variants.{None}
+use Rattle.bytes.proofs.Tests.{getD-all}
+use Rattle.turns.specs.World.{nobody, is-running}
+use Rattle.processes.proofs.Changed.{sound-place, tabled-away}
+use Rattle.processes.proofs.Tables.make_free.Needs as need
+
+pub returns : need.returns
+unfolding nobody is-running
+returns c =
+    rw (c .put-away .ensures)
+    (record {
+      sound = sound-place (c .args .self .now) (c .args .p) _ (c .pre .sound) refl;
+      sizes = refl;
+      tabled = λ w h. tabled-away (c .args .self .now) w (c .args .p) _ _ (c .pre .sound) h (c .pre .there) refl refl refl (λ k. getD-all 16 k None) refl;
+    })
