@@ -18,7 +18,7 @@ use Rattle.processes.specs.Tabled.{Worlds, Tabled, Came, Runs-at}
 use Rattle.processes.specs.Changes.{child}
 use Rattle.processes.specs.declared.Tables.{Tables}
 
-or-true : (b : Bool) → (b || true) ≡ true
+pub or-true : (b : Bool) → (b || true) ≡ true
 or-true true = refl
 or-true false = refl
 

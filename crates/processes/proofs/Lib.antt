@@ -4,3 +4,4 @@ pub mod Changed
 pub mod Begun
 pub mod Called
 pub mod Standing
+pub mod Piped

@@ -1,3 +1,4 @@
 pub mod Tabled
 pub mod Changes
+pub mod Pipes
 pub mod Laws

@@ -88,6 +88,7 @@ impl Process {
         requires { ⌜ length (now self .handles) ≡ 16 ⌝ }
         ensures number { λ r. ⌜ r ≡ lowest-from (λ h. is-none (getD (now (self .entry) .handles) h None)) from (count - from) ⌝ }
         ensures within { λ r. ⌜ r ≤ from + count ⌝ }
+        ensures behind { λ r. ⌜ from ≤ r ⌝ }
     {
         let mut h = from;
         while h < count && !self.is_unused(h) {

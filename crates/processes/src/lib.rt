@@ -7,6 +7,7 @@ pub mod laws;
 mod living;
 mod looking;
 mod passing;
+mod piping;
 mod reading;
 mod starting;
 
@@ -33,4 +34,14 @@ pub struct Tables {
     pub opens: [OpenThing; 256],
     pub turn: u8,
     pub used: u32,
+}
+
+// The two ends of a pipe: its number, the open things that are its ends, and the handles that lead to them.
+#[derive(Clone, Copy)]
+pub struct PipeEnds {
+    pub pipe: u8,
+    pub read_open: u8,
+    pub read_handle: u8,
+    pub write_open: u8,
+    pub write_handle: u8,
 }

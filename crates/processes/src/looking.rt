@@ -62,6 +62,7 @@ impl Tables {
         requires { ⌜ Sound (now self) ⌝ }
         ensures number { λ r. ⌜ ((w : Worlds) → Tabled (now (self .entry)) w → r ≡ lowest-from (λ k. not (in-use core w k)) from (now (self .entry) .sizes .opens - from)) ⌝ }
         ensures within { λ r. ⌜ r ≤ from + now (self .entry) .sizes .opens ⌝ }
+        ensures behind { λ r. ⌜ from ≤ r ⌝ }
     {
         let mut k = from;
         while k < self.sizes.opens as usize && self.in_use(k) {

@@ -60,6 +60,7 @@ impl Tables {
         requires there { ⌜ p < 64 ⌝ }
         ensures number { λ r. ⌜ ((w : Worlds) → Tabled (now (self .entry)) w → r ≡ lowest-from (λ h. is-none (getD (process core w p .handles) h None)) from (now (self .entry) .sizes .handles - from)) ⌝ }
         ensures within { λ r. ⌜ r ≤ from + now (self .entry) .sizes .handles ⌝ }
+        ensures behind { λ r. ⌜ from ≤ r ⌝ }
     {
         self.processes[p]
             .free_handle(from, self.sizes.handles as usize)

@@ -11,7 +11,7 @@ abbrev pub Inv-loop-k : given.InvT-loop-k
 Inv-loop-k l =
     ((w : Worlds) → Tabled (l .self) w →
     lowest-from (λ k. not (in-use core w k)) (l .k) (l .self .sizes .opens - l .k)
-    ≡ lowest-from (λ k. not (in-use core w k)) (l .from) (l .self .sizes .opens - l .from)) × (l .k ≤ l .from + l .self .sizes .opens)
+    ≡ lowest-from (λ k. not (in-use core w k)) (l .from) (l .self .sizes .opens - l .from)) × (l .k ≤ l .from + l .self .sizes .opens) × (l .from ≤ l .k)
 
 abbrev pub μ-loop-k : given.MeasureT-loop-k
 μ-loop-k l = l .self .sizes .opens - l .k
