@@ -1,11 +1,11 @@
 // Looking at the tables: each answer is the world's.
 ghost use mathlib.Core.Path.{_≡_};
-ghost use mathlib.Core.Bool.{_&&_, _||_, not};
+ghost use mathlib.Core.Bool.{true, _&&_, _||_, not};
 ghost use Prim.Native.Nat.{ℕ, _+_, _-_, _<_, _≤_};
 ghost use lib.ListN.{length};
 ghost use Rattle.bytes.specs.Rows.{some, lowest-from};
 ghost use Rattle.turns.specs.World.{runs-in, has-open, in-use, is-write-end, is-read-end, opened, writers, readers, free-process, free-open, free-pipe};
-ghost use Rattle.turns.specs.World.{is-child, is-left, is-running, left-child, process};
+ghost use Rattle.turns.specs.World.{is-child, is-free, is-left, is-running, left-child, process};
 ghost use Rattle.rv32.specs.Act.{core};
 ghost use Rattle.processes.specs.Tabled.{Sound, Tabled, Worlds, place};
 use crate::Tables;
@@ -49,6 +49,7 @@ impl Tables {
         requires { ⌜ Sound (now self) ⌝ }
         ensures number { λ r. ⌜ ((w : Worlds) → Tabled (now (self .entry)) w → r ≡ free-process core (now (self .entry) .sizes) w) ⌝ }
         ensures within { λ r. ⌜ r ≤ now (self .entry) .sizes .processes ⌝ }
+        ensures found { λ r. ⌜ (r < now (self .entry) .sizes .processes → is-free (place (now (self .entry)) r .state) ≡ true) ⌝ }
     {
         let mut p = 0;
         while p < self.sizes.processes as usize && !self.processes[p].is_free() {
