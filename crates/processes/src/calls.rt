@@ -2,7 +2,7 @@
 ghost use mathlib.Core.Path.{_≡_};
 ghost use Prim.Native.Nat.{ℕ, _<_};
 ghost use lib.ListN.{length};
-ghost use Rattle.turns.specs.World.{forks, waits, closes, copies, opens, left-with, is-nothing};
+ghost use Rattle.turns.specs.World.{forks, waits, closes, copies, opens, left-with, is-nothing, is-running};
 ghost use Rattle.rv32.specs.Act.{core};
 ghost use Rattle.processes.specs.Tabled.{Sound, Tabled, Worlds, Runs-at, Came, place};
 use crate::Process;
@@ -51,6 +51,7 @@ impl Tables {
         requires { ⌜ Sound (now self) ⌝ }
         ensures sound { λ _. ⌜ Sound (now (self .exit)) ⌝ }
         ensures sizes { λ _. ⌜ now (self .exit) .sizes ≡ now (self .entry) .sizes ⌝ }
+        ensures running { λ _. ⌜ ((q : ℕ) → is-running (place (now (self .exit)) q .state) ≡ is-running (place (now (self .entry)) q .state)) ⌝ }
         ensures done { λ r. ⌜ ((w : Worlds) → Tabled (now (self .entry)) w → Came (now (self .exit)) r (waits core (now (self .entry) .sizes) w p)) ⌝ }
     {
         if !self.has_child(p) {
