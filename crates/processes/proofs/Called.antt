@@ -2,19 +2,22 @@
 use mathlib.Core.Path.{_≡_, refl, sym, ap, subst, _∙_}
 use mathlib.Core.Bool.{Bool, true, false, _||_, not}
 use Prim.Native.Nat.{ℕ, suc, _+_, _-_, _*_, _≤_, _<_}
+use lib.Dec.{eqb}
 use native.Mathlib.Omega.{arith}
-use Rattle.std.proofs.shelf.Tests.{lt-ltb, le-ltb, lt-leb, le-leb}
+use Rattle.std.proofs.shelf.Tests.{both-ways, eqb-true, lt-ltb, le-ltb, lt-leb, le-leb}
 use Rattle.std.specs.declared.option.Option.the-variants.{Some, None}
 use Rattle.processes.proofs.Rows.{getD-past}
 use Rattle.bytes.specs.Rows.{pick, some, lowest, lowest-from}
-use Rattle.bytes.proofs.Tests.{pick-true, pick-false}
-use Rattle.turns.specs.World.{Done, process, nobody, with-process, waits, left-child, left-with, is-child, turned-down, answers, stays, no, is-none, handle-of, with-handle, closes, copies, opens, forks, free-process, named, is-nothing, free-open, free-handle, with-open}
+use Rattle.bytes.proofs.Tests.{pick-true, pick-false, pick-both}
+use Rattle.turns.specs.World.{is-left, is-running, Done, process, nobody, with-process, waits, left-child, left-with, is-child, turned-down, answers, stays, no, is-none, handle-of, with-handle, closes, copies, opens, forks, free-process, named, is-nothing, free-open, free-handle, with-open}
 use Rattle.turns.specs.declared.vocabulary.End.{End}
 use Rattle.turns.specs.declared.vocabulary.Outcome.the-variants.{Answer, Stays}
+use Rattle.turns.specs.declared.vocabulary.State.{State}
+use Rattle.turns.specs.declared.vocabulary.State.the-variants.{Free, Runs, Left}
 use Rattle.turns.specs.declared.vocabulary.Sizes.{Sizes}
 use Rattle.rv32.specs.declared.cpu.Cpu.{Cpu}
 use Rattle.rv32.specs.Act.{core}
-use Rattle.processes.specs.Tabled.{Worlds, Tabled, Came, Runs-at}
+use Rattle.processes.specs.Tabled.{Worlds, Tabled, Came, Runs-at, place}
 use Rattle.processes.specs.Changes.{child}
 use Rattle.processes.specs.declared.Tables.{Tables}
 
@@ -58,6 +61,19 @@ module _ (z : Sizes) (w : Worlds) (p : ℕ) where
       answers (with-process w i (nobody core)) (left-with (process core w i .state) * 256 + suc i) ≡ waits core z w p
   unfolding waits
   waits-over i e f l = rw (← f) (sym (pick-false _ _ _ (ap not (sym e)) ∙ pick-true _ _ _ (lt-ltb _ _ l)))
+
+left-rests : (s : State) → is-left s ≡ true → is-running s ≡ false
+unfolding is-left is-running
+left-rests Free e = refl
+left-rests Runs e = absurd (both-ways false refl e)
+left-rests (Left n) e = refl
+
+-- a place that becomes free after a process has left it: nobody more and nobody less runs
+pub reaped-rests : (t : Tables) (i q : ℕ) → is-left (place t i .state) ≡ true → is-running (pick (eqb q i) Free (place t q .state)) ≡ is-running (place t q .state)
+unfolding is-running
+reaped-rests t i q l =
+    pick-both (λ x. is-running x ≡ is-running (place t q .state)) (eqb q i) Free (place t q .state)
+    (λ e. sym (ap (λ k. is-running (place t k .state)) (eqb-true q i e) ∙ left-rests (place t i .state) l)) (λ _. refl)
 
 -- HANDLES
 

@@ -10,7 +10,7 @@ use lib.ListN.{length, getD, set}
 use Rattle.std.specs.declared.option.Option.{Option}
 use Rattle.std.specs.declared.option.Option.the-variants.{None}
 use Rattle.std.proofs.shelf.Lists.{length-map, length-set, getD-set-same, getD-set-other}
-use Rattle.std.proofs.shelf.Tests.{cases-eq, cases-lt, both-ways, lt-ltb, le-ltb}
+use Rattle.std.proofs.shelf.Tests.{cases-eq, eq-eqb, ne-eqb, cases-lt, both-ways, lt-ltb, le-ltb}
 use Rattle.bytes.specs.Rows.{pick}
 use Rattle.bytes.proofs.Tests.{pick-true, pick-false, getD-set-by}
 use Rattle.turns.specs.World.{process, nobody, opened, closed, is-running, with-process, with-open, with-handle, after-turn, passes, spends, moved, orphaned}
@@ -25,7 +25,7 @@ use Rattle.rv32.specs.Execute.{answered, fresh}
 use Rattle.processes.specs.declared.Process.{Process}
 use Rattle.processes.specs.declared.Tables.{Tables}
 use Rattle.processes.specs.Tabled.{Sound, Tabled, Same, Worlds, Runs-at, place, thing, blank, shut}
-use Rattle.processes.specs.Changes.{with-place, with-thing, with-turn, with-cpu, with-handles, without-parent, child, begun}
+use Rattle.processes.specs.Changes.{with-place, with-thing, with-turn, with-cpu, with-handles, without-parent, child, begun, States-set}
 use Rattle.processes.proofs.Rows.{getD-past}
 
 -- PLACES
@@ -44,6 +44,13 @@ sound-place t p q s l =
 -- a place whose state stays changes no state
 pub states-kept : (t : Tables) (p : ℕ) (q : Process) → q .state ≡ place t p .state → (r : ℕ) → place (with-place t p q) r .state ≡ place t r .state
 states-kept t p q e r = getD-set-by (λ (x : Process). x .state ≡ place t r .state) (t .processes) p r q blank (λ (i : r ≡ p). rw i e) refl
+
+pub states-set : (t : Tables) (p : ℕ) (q : Process) (x : State) → p < length (t .processes) → q .state ≡ x → States-set t (with-place t p q) p x
+states-set t p q x l e r =
+    ⊎-elim
+    (λ (i : r ≡ p). rw (i, getD-set-same (t .processes) p q blank l) (e ∙ sym (pick-true _ _ _ (eq-eqb p p refl))))
+    (λ n. ap (λ (y : Process). y .state) (getD-set-other (t .processes) p r q blank n) ∙ sym (pick-false _ _ _ (ne-eqb r p n)))
+    (cases-eq r p)
 
 pub runs-kept : (t u : Tables) (p : ℕ) → u .sizes ≡ t .sizes → ((q : ℕ) → place u q .state ≡ place t q .state) → Runs-at t p → Runs-at u p
 runs-kept t u p z f r = (subst (λ (y : Sizes). p < y .processes) (sym z) (r .0), ap is-running (f p) ∙ r .1)

@@ -1,4 +1,5 @@
 -- One thing of the tables changed, all else as it was. Assumes nothing: these are definitions.
+use mathlib.Core.Path.{_≡_}
 use mathlib.Core.List.{List, _∷_}
 use Prim.Native.Nat.{ℕ}
 use lib.Dec.{eqb}
@@ -16,7 +17,7 @@ use Rattle.rv32.specs.Act.{core}
 use Rattle.rv32.specs.Execute.{fresh, answered}
 use Rattle.processes.specs.declared.Process.{Process}
 use Rattle.processes.specs.declared.Tables.{Tables}
-use Rattle.processes.specs.Tabled.{Worlds}
+use Rattle.processes.specs.Tabled.{Worlds, place}
 
 abbrev pub with-place : Tables → ℕ → Process → Tables
 with-place t p q = record { sizes = t .sizes; processes = set (t .processes) p q; opens = t .opens; turn = t .turn; used = t .used }
@@ -48,6 +49,10 @@ empty = record { state = Free; parent = 0; cpu = fresh 0; handles = replicate 16
 -- the first process, with n bytes of memory: handles 0, 1 and 2 lead to open thing 0
 abbrev pub first : ℕ → Process
 first n = record { state = Runs; parent = 0; cpu = fresh n; handles = Some 0 ∷ Some 0 ∷ Some 0 ∷ replicate 13 None }
+
+-- of all states only that in place p has changed, and is s now
+abbrev pub States-set : Tables → Tables → ℕ → State → Type 0
+States-set t u p s = (q : ℕ) → place u q .state ≡ pick (eqb q p) s (place t q .state)
 
 -- IN THE WORLD
 

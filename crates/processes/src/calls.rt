@@ -2,9 +2,9 @@
 ghost use mathlib.Core.Path.{_≡_};
 ghost use Prim.Native.Nat.{ℕ, _<_};
 ghost use lib.ListN.{length};
-ghost use Rattle.turns.specs.World.{forks, waits, closes, copies, opens, left-with, is-nothing};
+ghost use Rattle.turns.specs.World.{forks, waits, closes, copies, opens, left-with, is-nothing, is-running};
 ghost use Rattle.rv32.specs.Act.{core};
-ghost use Rattle.processes.specs.Tabled.{Sound, Tabled, Worlds, Runs-at, Came};
+ghost use Rattle.processes.specs.Tabled.{Sound, Tabled, Worlds, Runs-at, Came, place};
 use crate::Process;
 use crate::Tables;
 use crate::reading::end_named;
@@ -51,6 +51,7 @@ impl Tables {
         requires { ⌜ Sound (now self) ⌝ }
         ensures sound { λ _. ⌜ Sound (now (self .exit)) ⌝ }
         ensures sizes { λ _. ⌜ now (self .exit) .sizes ≡ now (self .entry) .sizes ⌝ }
+        ensures running { λ _. ⌜ ((q : ℕ) → is-running (place (now (self .exit)) q .state) ≡ is-running (place (now (self .entry)) q .state)) ⌝ }
         ensures done { λ r. ⌜ ((w : Worlds) → Tabled (now (self .entry)) w → Came (now (self .exit)) r (waits core (now (self .entry) .sizes) w p)) ⌝ }
     {
         if !self.has_child(p) {
@@ -71,6 +72,7 @@ impl Tables {
         requires runs { ⌜ Runs-at (now self) p ⌝ }
         ensures sound { λ _. ⌜ Sound (now (self .exit)) ⌝ }
         ensures sizes { λ _. ⌜ now (self .exit) .sizes ≡ now (self .entry) .sizes ⌝ }
+        ensures states { λ _. ⌜ ((q : ℕ) → place (now (self .exit)) q .state ≡ place (now (self .entry)) q .state) ⌝ }
         ensures done { λ r. ⌜ ((w : Worlds) → Tabled (now (self .entry)) w → Came (now (self .exit)) r (closes core w p h)) ⌝ }
     {
         let h = h as usize;
@@ -87,6 +89,7 @@ impl Tables {
         requires runs { ⌜ Runs-at (now self) p ⌝ }
         ensures sound { λ _. ⌜ Sound (now (self .exit)) ⌝ }
         ensures sizes { λ _. ⌜ now (self .exit) .sizes ≡ now (self .entry) .sizes ⌝ }
+        ensures states { λ _. ⌜ ((q : ℕ) → place (now (self .exit)) q .state ≡ place (now (self .entry)) q .state) ⌝ }
         ensures done { λ r. ⌜ ((w : Worlds) → Tabled (now (self .entry)) w → Came (now (self .exit)) r (copies core (now (self .entry) .sizes) w p h g)) ⌝ }
     {
         if !self.has_handle(p, h as usize) {
@@ -106,6 +109,7 @@ impl Tables {
         requires runs { ⌜ Runs-at (now self) p ⌝ }
         ensures sound { λ _. ⌜ Sound (now (self .exit)) ⌝ }
         ensures sizes { λ _. ⌜ now (self .exit) .sizes ≡ now (self .entry) .sizes ⌝ }
+        ensures states { λ _. ⌜ ((q : ℕ) → place (now (self .exit)) q .state ≡ place (now (self .entry)) q .state) ⌝ }
         ensures done { λ r. ⌜ ((w : Worlds) → Tabled (now (self .entry)) w → length (w .files) ≡ now (self .entry) .sizes .files → Came (now (self .exit)) r (opens core (now (self .entry) .sizes) w p name)) ⌝ }
     {
         let end = end_named(self.sizes, name);

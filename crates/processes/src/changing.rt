@@ -35,7 +35,7 @@ impl Tables {
     }
 
     // Handle `h` of process `p`, which runs, leads to this from now on.
-    pub fn set_handle(&mut self, p: usize, h: usize, to: Option<u8>)
+    pub(crate) fn set_handle(&mut self, p: usize, h: usize, to: Option<u8>)
         requires sound { ⌜ Sound (now self) ⌝ }
         requires runs { ⌜ Runs-at (now self) p ⌝ }
         requires there { ⌜ h < now self .sizes .handles ⌝ }
@@ -48,7 +48,7 @@ impl Tables {
     }
 
     // The open thing `k` is this from now on.
-    pub fn set_open(&mut self, k: usize, thing: OpenThing)
+    pub(crate) fn set_open(&mut self, k: usize, thing: OpenThing)
         requires sound { ⌜ Sound (now self) ⌝ }
         requires there { ⌜ k < now self .sizes .opens ⌝ }
         ensures sound { λ _. ⌜ Sound (now (self .exit)) ⌝ }

@@ -10,7 +10,7 @@ use crate::Process;
 use turns::vocabulary::State;
 
 impl Process {
-    pub fn is_free(&self) -> bool
+    pub(crate) fn is_free(&self) -> bool
         ensures { λ r. ⌜ r ≡ is-free (now (self .entry) .state) ⌝ }
     {
         match self.state {
@@ -20,7 +20,7 @@ impl Process {
         }
     }
 
-    pub fn runs(&self) -> bool
+    pub(crate) fn runs(&self) -> bool
         ensures { λ r. ⌜ r ≡ is-running (now (self .entry) .state) ⌝ }
     {
         match self.state {
@@ -30,7 +30,7 @@ impl Process {
         }
     }
 
-    pub fn has_left(&self) -> bool
+    pub(crate) fn has_left(&self) -> bool
         ensures { λ r. ⌜ r ≡ is-left (now (self .entry) .state) ⌝ }
     {
         match self.state {
@@ -41,7 +41,7 @@ impl Process {
     }
 
     // What handle `h` leads to; there are no handles past the last.
-    pub fn handle(&self, h: usize) -> Option<u8>
+    pub(crate) fn handle(&self, h: usize) -> Option<u8>
         requires { ⌜ length (now self .handles) ≡ 16 ⌝ }
         ensures { λ r. ⌜ r ≡ getD (now (self .entry) .handles) h None ⌝ }
     {
@@ -60,7 +60,7 @@ impl Process {
     }
 
     // Whether one of the first `count` handles leads to the open thing `k`.
-    pub fn holds(&self, k: usize, count: usize) -> bool
+    pub(crate) fn holds(&self, k: usize, count: usize) -> bool
         requires { ⌜ length (now self .handles) ≡ 16 ⌝ }
         ensures { λ r. ⌜ r ≡ some (λ h. leads-to k (getD (now (self .entry) .handles) h None)) count ⌝ }
     {
@@ -84,7 +84,7 @@ impl Process {
     }
 
     // The lowest of the first `count` handles, from `from` on, that leads to nothing; `count`, or `from` if that is more, if there is none.
-    pub fn free_handle(&self, from: usize, count: usize) -> usize
+    pub(crate) fn free_handle(&self, from: usize, count: usize) -> usize
         requires { ⌜ length (now self .handles) ≡ 16 ⌝ }
         ensures number { λ r. ⌜ r ≡ lowest-from (λ h. is-none (getD (now (self .entry) .handles) h None)) from (count - from) ⌝ }
         ensures within { λ r. ⌜ r ≤ from + count ⌝ }

@@ -1,11 +1,12 @@
 // Processes come and go.
 ghost use mathlib.Core.Path.{_≡_};
 ghost use mathlib.Core.List.{List};
-ghost use Prim.Native.Nat.{ℕ, _<_};
+ghost use Prim.Native.Nat.{ℕ, _%_, _<_};
 ghost use Rattle.turns.specs.World.{process, nobody, with-process, orphaned, leaves};
+ghost use Rattle.turns.specs.declared.vocabulary.State.the-variants.{Free, Runs, Left};
 ghost use Rattle.rv32.specs.Act.{core};
-ghost use Rattle.processes.specs.Tabled.{Sound, Tabled, Worlds, Runs-at};
-ghost use Rattle.processes.specs.Changes.{without-parent, away, child, begun};
+ghost use Rattle.processes.specs.Tabled.{Sound, Tabled, Worlds, Runs-at, place};
+ghost use Rattle.processes.specs.Changes.{without-parent, away, child, begun, States-set};
 use crate::Process;
 use crate::Tables;
 use rv32::Cpu;
@@ -37,6 +38,7 @@ impl Tables {
         requires { ⌜ Sound (now self) ⌝ }
         ensures sound { λ _. ⌜ Sound (now (self .exit)) ⌝ }
         ensures sizes { λ _. ⌜ now (self .exit) .sizes ≡ now (self .entry) .sizes ⌝ }
+        ensures states { λ _. ⌜ ((q : ℕ) → place (now (self .exit)) q .state ≡ place (now (self .entry)) q .state) ⌝ }
         ensures tabled { λ _. ⌜ ((w : Worlds) → Tabled (now (self .entry)) w → Tabled (now (self .exit)) (orphaned w p)) ⌝ }
     {
         for q in 0..64 {
@@ -50,6 +52,7 @@ impl Tables {
         requires there { ⌜ p < now self .sizes .processes ⌝ }
         ensures sound { λ _. ⌜ Sound (now (self .exit)) ⌝ }
         ensures sizes { λ _. ⌜ now (self .exit) .sizes ≡ now (self .entry) .sizes ⌝ }
+        ensures states { λ _. ⌜ States-set (now (self .entry)) (now (self .exit)) p (Left (n % 256)) ⌝ }
         ensures tabled { λ _. ⌜ ((w : Worlds) → Tabled (now (self .entry)) w → Tabled (now (self .exit)) (leaves core w p n .world)) ⌝ }
     {
         let parent = self.processes[p].parent;
@@ -65,6 +68,7 @@ impl Tables {
         requires there { ⌜ q < now self .sizes .processes ⌝ }
         ensures sound { λ _. ⌜ Sound (now (self .exit)) ⌝ }
         ensures sizes { λ _. ⌜ now (self .exit) .sizes ≡ now (self .entry) .sizes ⌝ }
+        ensures states { λ _. ⌜ States-set (now (self .entry)) (now (self .exit)) q Runs ⌝ }
         ensures tabled { λ _. ⌜ ((w : Worlds) → Tabled (now (self .entry)) w → Tabled (now (self .exit)) (with-process w q (child w p))) ⌝ }
     {
         let mut child = self.processes[p];
@@ -80,6 +84,7 @@ impl Tables {
         requires runs { ⌜ Runs-at (now self) p ⌝ }
         ensures sound { λ _. ⌜ Sound (now (self .exit)) ⌝ }
         ensures sizes { λ _. ⌜ now (self .exit) .sizes ≡ now (self .entry) .sizes ⌝ }
+        ensures states { λ _. ⌜ ((q : ℕ) → place (now (self .exit)) q .state ≡ place (now (self .entry)) q .state) ⌝ }
         ensures tabled { λ _. ⌜ ((w : Worlds) (m : List ℕ) → Tabled (now (self .entry)) w → Tabled (now (self .exit)) (with-process w p (begun (now (self .entry) .sizes .memory) m (process core w p)))) ⌝ }
     {
         self.processes[p].cpu = Cpu::start(self.sizes.memory);
@@ -91,6 +96,7 @@ impl Tables {
         requires there { ⌜ p < now self .sizes .processes ⌝ }
         ensures sound { λ _. ⌜ Sound (now (self .exit)) ⌝ }
         ensures sizes { λ _. ⌜ now (self .exit) .sizes ≡ now (self .entry) .sizes ⌝ }
+        ensures states { λ _. ⌜ States-set (now (self .entry)) (now (self .exit)) p Free ⌝ }
         ensures tabled { λ _. ⌜ ((w : Worlds) → Tabled (now (self .entry)) w → Tabled (now (self .exit)) (with-process w p (nobody core))) ⌝ }
     {
         self.processes[p].put_away(State::Free, 0);

@@ -1,11 +1,11 @@
 // Looking at the tables: each answer is the world's.
 ghost use mathlib.Core.Path.{_≡_};
-ghost use mathlib.Core.Bool.{_&&_, _||_, not};
+ghost use mathlib.Core.Bool.{true, _&&_, _||_, not};
 ghost use Prim.Native.Nat.{ℕ, _+_, _-_, _<_, _≤_};
 ghost use lib.ListN.{length};
 ghost use Rattle.bytes.specs.Rows.{some, lowest-from};
 ghost use Rattle.turns.specs.World.{runs-in, has-open, in-use, is-write-end, is-read-end, opened, writers, readers, free-process, free-open, free-pipe};
-ghost use Rattle.turns.specs.World.{is-child, is-left, is-running, left-child, process};
+ghost use Rattle.turns.specs.World.{is-child, is-free, is-left, is-running, left-child, process};
 ghost use Rattle.rv32.specs.Act.{core};
 ghost use Rattle.processes.specs.Tabled.{Sound, Tabled, Worlds, place};
 use crate::Tables;
@@ -32,7 +32,7 @@ impl Tables {
     }
 
     // Whether the open thing `k` is in use: somebody who runs has a handle on it.
-    pub fn in_use(&self, k: usize) -> bool
+    pub(crate) fn in_use(&self, k: usize) -> bool
         requires { ⌜ Sound (now self) ⌝ }
         ensures { λ r. ⌜ ((w : Worlds) → Tabled (now (self .entry)) w → r ≡ in-use core w k) ⌝ }
     {
@@ -49,6 +49,7 @@ impl Tables {
         requires { ⌜ Sound (now self) ⌝ }
         ensures number { λ r. ⌜ ((w : Worlds) → Tabled (now (self .entry)) w → r ≡ free-process core (now (self .entry) .sizes) w) ⌝ }
         ensures within { λ r. ⌜ r ≤ now (self .entry) .sizes .processes ⌝ }
+        ensures found { λ r. ⌜ (r < now (self .entry) .sizes .processes → is-free (place (now (self .entry)) r .state) ≡ true) ⌝ }
     {
         let mut p = 0;
         while p < self.sizes.processes as usize && !self.processes[p].is_free() {
@@ -58,7 +59,7 @@ impl Tables {
     }
 
     // The lowest open thing from `from` on that is not in use; the number of open things, or `from` if that is more, if there is none.
-    pub fn free_open(&self, from: usize) -> usize
+    pub(crate) fn free_open(&self, from: usize) -> usize
         requires { ⌜ Sound (now self) ⌝ }
         ensures number { λ r. ⌜ ((w : Worlds) → Tabled (now (self .entry)) w → r ≡ lowest-from (λ k. not (in-use core w k)) from (now (self .entry) .sizes .opens - from)) ⌝ }
         ensures within { λ r. ⌜ r ≤ from + now (self .entry) .sizes .opens ⌝ }
@@ -124,7 +125,7 @@ impl Tables {
     }
 
     // The lowest pipe with no end in use; the number of pipes if there is none.
-    pub fn free_pipe(&self) -> usize
+    pub(crate) fn free_pipe(&self) -> usize
         requires { ⌜ Sound (now self) ⌝ }
         ensures number { λ r. ⌜ ((w : Worlds) → Tabled (now (self .entry)) w → r ≡ free-pipe core (now (self .entry) .sizes) w) ⌝ }
         ensures within { λ r. ⌜ r ≤ now (self .entry) .sizes .pipes ⌝ }
@@ -149,7 +150,7 @@ impl Tables {
     }
 
     // Whether `p` has a child.
-    pub fn has_child(&self, p: usize) -> bool
+    pub(crate) fn has_child(&self, p: usize) -> bool
         requires { ⌜ Sound (now self) ⌝ }
         ensures { λ r. ⌜ ((w : Worlds) → Tabled (now (self .entry)) w → r ≡ some (is-child core w p) (now (self .entry) .sizes .processes)) ⌝ }
     {
@@ -165,16 +166,18 @@ impl Tables {
     fn is_left_child(&self, p: usize, i: usize) -> bool
         requires sound { ⌜ Sound (now self) ⌝ }
         requires there { ⌜ i < 64 ⌝ }
-        ensures { λ r. ⌜ ((w : Worlds) → Tabled (now (self .entry)) w → r ≡ (is-child core w p i && is-left (process core w i .state))) ⌝ }
+        ensures child { λ r. ⌜ ((w : Worlds) → Tabled (now (self .entry)) w → r ≡ (is-child core w p i && is-left (process core w i .state))) ⌝ }
+        ensures left { λ r. ⌜ (r ≡ true → is-left (place (now (self .entry)) i .state) ≡ true) ⌝ }
     {
         self.is_child(p, i) && self.processes[i].has_left()
     }
 
     // The lowest place with a child of `p` that has left; the number of places if there is none.
-    pub fn left_child(&self, p: usize) -> usize
+    pub(crate) fn left_child(&self, p: usize) -> usize
         requires { ⌜ Sound (now self) ⌝ }
         ensures number { λ r. ⌜ ((w : Worlds) → Tabled (now (self .entry)) w → r ≡ left-child core (now (self .entry) .sizes) w p) ⌝ }
         ensures within { λ r. ⌜ r ≤ now (self .entry) .sizes .processes ⌝ }
+        ensures found { λ r. ⌜ (r < now (self .entry) .sizes .processes → is-left (place (now (self .entry)) r .state) ≡ true) ⌝ }
     {
         let mut i = 0;
         while i < self.sizes.processes as usize && !self.is_left_child(p, i) {

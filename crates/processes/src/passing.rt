@@ -2,7 +2,7 @@
 ghost use mathlib.Core.Path.{_≡_};
 ghost use Prim.Native.Nat.{ℕ, _<_, _≤_};
 ghost use Rattle.turns.specs.World.{after-turn, passes, spends};
-ghost use Rattle.processes.specs.Tabled.{Sound, Tabled, Worlds};
+ghost use Rattle.processes.specs.Tabled.{Sound, Tabled, Worlds, place};
 use crate::Tables;
 
 impl Tables {
@@ -11,6 +11,7 @@ impl Tables {
         requires { ⌜ Sound (now self) ⌝ }
         ensures sound { λ _. ⌜ Sound (now (self .exit)) ⌝ }
         ensures sizes { λ _. ⌜ now (self .exit) .sizes ≡ now (self .entry) .sizes ⌝ }
+        ensures states { λ _. ⌜ ((q : ℕ) → place (now (self .exit)) q .state ≡ place (now (self .entry)) q .state) ⌝ }
         ensures tabled { λ _. ⌜ ((w : Worlds) → Tabled (now (self .entry)) w → Tabled (now (self .exit)) (passes (now (self .entry) .sizes) w)) ⌝ }
     {
         self.turn = next_turn(self.sizes.processes, self.turn);
@@ -22,6 +23,7 @@ impl Tables {
         requires { ⌜ Sound (now self) ⌝ }
         ensures sound { λ _. ⌜ Sound (now (self .exit)) ⌝ }
         ensures sizes { λ _. ⌜ now (self .exit) .sizes ≡ now (self .entry) .sizes ⌝ }
+        ensures states { λ _. ⌜ ((q : ℕ) → place (now (self .exit)) q .state ≡ place (now (self .entry)) q .state) ⌝ }
         ensures tabled { λ _. ⌜ ((w : Worlds) → Tabled (now (self .entry)) w → Tabled (now (self .exit)) (spends (now (self .entry) .sizes) w)) ⌝ }
     {
         if self.used + 1 < self.sizes.turn {

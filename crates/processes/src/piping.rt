@@ -2,7 +2,7 @@
 ghost use mathlib.Core.Path.{_≡_};
 ghost use mathlib.Core.List.{List};
 ghost use Prim.Native.Nat.{ℕ, _<_};
-ghost use Rattle.processes.specs.Tabled.{Sound, Tabled, Worlds, Runs-at};
+ghost use Rattle.processes.specs.Tabled.{Sound, Tabled, Worlds, Runs-at, place};
 ghost use Rattle.processes.specs.Pipes.{Found, piped};
 use crate::PipeEnds;
 use crate::Tables;
@@ -47,6 +47,7 @@ impl Tables {
         requires handles { ⌜ (ends .«read_handle» < now self .sizes .handles) × (ends .«write_handle» < now self .sizes .handles) ⌝ }
         ensures sound { λ _. ⌜ Sound (now (self .exit)) ⌝ }
         ensures sizes { λ _. ⌜ now (self .exit) .sizes ≡ now (self .entry) .sizes ⌝ }
+        ensures states { λ _. ⌜ ((q : ℕ) → place (now (self .exit)) q .state ≡ place (now (self .entry)) q .state) ⌝ }
         ensures tabled { λ _. ⌜ ((w : Worlds) (m : List ℕ) → Tabled (now (self .entry)) w → Tabled (now (self .exit)) (piped w p ends m)) ⌝ }
     {
         let reads = OpenThing {

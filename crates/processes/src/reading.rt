@@ -24,7 +24,7 @@ impl Tables {
     }
 
     // Whether handle `h` of process `p`, which runs, leads to an open thing.
-    pub fn has_handle(&self, p: usize, h: usize) -> bool
+    pub(crate) fn has_handle(&self, p: usize, h: usize) -> bool
         requires sound { ⌜ Sound (now self) ⌝ }
         requires runs { ⌜ Runs-at (now self) p ⌝ }
         ensures leads { λ r. ⌜ ((w : Worlds) → Tabled (now (self .entry)) w → r ≡ not (is-none (handle-of core w p h))) ⌝ }
@@ -55,7 +55,7 @@ impl Tables {
     }
 
     // The lowest handle of process `p`, from `from` on, that leads to nothing; the number of handles, or `from` if that is more, if there is none.
-    pub fn free_handle(&self, p: usize, from: usize) -> usize
+    pub(crate) fn free_handle(&self, p: usize, from: usize) -> usize
         requires sound { ⌜ Sound (now self) ⌝ }
         requires there { ⌜ p < 64 ⌝ }
         ensures number { λ r. ⌜ ((w : Worlds) → Tabled (now (self .entry)) w → r ≡ lowest-from (λ h. is-none (getD (process core w p .handles) h None)) from (now (self .entry) .sizes .handles - from)) ⌝ }
@@ -68,7 +68,7 @@ impl Tables {
 }
 
 // What a name stands for: a file, or behind the files a screen.
-pub fn end_named(sizes: Sizes, name: u32) -> End
+pub(crate) fn end_named(sizes: Sizes, name: u32) -> End
     requires files { ⌜ sizes .files ≤ 64 ⌝ }
     requires screens { ⌜ sizes .screens ≤ 16 ⌝ }
     ensures { λ r. ⌜ ((w : Worlds) → length (w .files) ≡ sizes .files → r ≡ named sizes w name) ⌝ }

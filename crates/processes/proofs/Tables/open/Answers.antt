@@ -8,6 +8,7 @@ returns-then-is-nothing c =
     record {
       sound = c .pre .sound;
       sizes = refl;
+      states = λ q. refl;
       done = λ w h e. down _ _ w h (opens-none (c .args .self .now .sizes) w (c .args .p) (c .args .name) _ (c .end-named-end .ensures w e) (c .if-is-nothing .ensures tt));
     }
 
@@ -17,6 +18,7 @@ returns-then-k-self c =
     record {
       sound = c .pre .sound;
       sizes = refl;
+      states = λ q. refl;
       done = λ w h e.
           down _ _ w h (opens-full (c .args .self .now .sizes) w (c .args .p) (c .args .name) _ (from-first _ _ _ (c .free-open-k .ensures .number w h)) (c .if-k-self .taken));
     }
@@ -27,6 +29,7 @@ returns-then-h-self c =
     record {
       sound = c .pre .sound;
       sizes = refl;
+      states = λ q. refl;
       done = λ w h e.
           down _ _ w h (opens-held (c .args .self .now .sizes) w (c .args .p) (c .args .name) _ (from-first _ _ _ (c .free-handle-h .ensures .number w h)) (c .if-h-self .taken));
     }
@@ -37,6 +40,7 @@ returns c =
     record {
       sound = c .set-handle .ensures .sound;
       sizes = c .set-handle .ensures .sizes ∙ c .set-open .ensures .sizes;
+      states = λ q. c .set-handle .ensures .states q ∙ c .set-open .ensures .states q;
       done = λ w h e.
           answered _ _ _ _ _ (c .set-handle .ensures .tabled _ (c .set-open .ensures .tabled w h)) refl
           (opens-one (c .args .self .now .sizes) w (c .args .p) (c .args .name) _ _ _ (c .end-named-end .ensures w e) (c .if-is-nothing .ensures tt)

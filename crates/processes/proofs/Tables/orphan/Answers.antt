@@ -1,4 +1,5 @@
-use mathlib.Core.Path.{_≡_}
+use mathlib.Core.Path.{_≡_, ap}
+use Rattle.processes.specs.declared.Process.{Process}
 use native.Mathlib.Omega.{arith}
 use Prim.Native.Nat.{ℕ, _<_, _≤_}
 use Rattle.processes.specs.Tabled.{place}
@@ -15,5 +16,6 @@ returns c =
     record {
       sound = sound-orphaned t u (c .args .p) (c .pre) f (i .2) (i .3) (i .4) (i .5) (i .6);
       sizes = i .3;
+      states = λ q. ap (λ (x : Process). x .state) (f q);
       tabled = tabled-orphaned t u (c .args .p) f (i .3) (i .4) (i .5) (i .6);
     }

@@ -10,6 +10,7 @@ returns-then-self c =
     record {
       sound = sound-turn (c .args .self .now) (c .args .self .now .turn) _ (c .pre) (c .pre .turn) (omega arith);
       sizes = refl;
+      states = λ q. refl;
       tabled = λ w h.
           let e : c .args .self .now .used + 1 ≡ suc (w .used) = omega (arith, h .used) in
           subst (Tabled _) (spends-on _ w (omega (arith, h .used))) (tabled-turn (c .args .self .now) w _ _ _ _ h (h .turn) e);
@@ -20,5 +21,6 @@ returns-else-self c =
     record {
       sound = c .pass .ensures .sound;
       sizes = c .pass .ensures .sizes;
+      states = c .pass .ensures .states;
       tabled = λ w h. subst (Tabled _) (spends-over _ w (omega (arith, h .used))) (c .pass .ensures .tabled w h);
     }
