@@ -1,4 +1,5 @@
 // Rows of bytes in lent memory: queues, for keys and for pipes, and what screens show.
+#![tactic(auto)]
 mod rings;
 mod shown;
 
