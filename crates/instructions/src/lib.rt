@@ -1,5 +1,6 @@
 // The instructions of RV32I of the RISC-V unprivileged specification, without control and status registers: decoded, encoded, and as they are written.
 #![tactic(auto)]
+
 mod decoding;
 mod encoding;
 mod fields;

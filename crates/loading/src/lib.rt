@@ -1,5 +1,6 @@
 // A list with the files that it names, read from where they are. What is wrong is told on standard error, in one line that names the place.
 #![tactic(auto)]
+
 ghost use Rattle.std.specs.Prelude.{◌≡◌, length, IfOk, Some, vec_len, OnOk};
 ghost use Rattle.turns.specs.Ranges.{InRange};
 ghost use Rattle.inputs.specs.Lists.{Within};

@@ -1,5 +1,6 @@
 // mkdisc LIST IMAGE makes a disc image from a list; mkdisc read IMAGE FOLDER writes the list and the files of an image back.
 #![tactic(auto)]
+
 ghost use Rattle.std.specs.Prelude.{◌<◌};
 ghost use Rattle.disc.specs.Blocks.{blocks};
 ghost use Rattle.disc.specs.Check.{Taken};

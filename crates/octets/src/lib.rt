@@ -1,5 +1,6 @@
 // Words in bytes, the low byte first, over lent slices.
 #![tactic(auto)]
+
 ghost use Rattle.std.specs.Prelude.{◌≡◌, ◌+◌, ◌≤◌, length};
 ghost use Rattle.octets.specs.Words.{half_at, word_at, half_bytes, word_bytes};
 ghost use Rattle.octets.specs.Rows.{over};

@@ -1,6 +1,7 @@
 // The memory of processes, in frames of 4,096 bytes of lent memory. The first 80 frames hold the page tables and a stack of free frames; the others hold pages.
 // What a process sees is one row of bytes, `byte_of` process and address (specs/Tables); no caller speaks of tables.
 #![tactic(auto)]
+
 mod accesses;
 mod fills;
 mod frames;

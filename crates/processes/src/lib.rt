@@ -1,6 +1,7 @@
 // The tables of a time-sharing system: who is in which place, which handles a process has, and what the open things are that handles lead to. No memory, files,
 // pipes or screens are here: only numbers of them. `Tabled` (specs/Tabled) says of which worlds the tables are.
 #![tactic(auto)]
+
 mod calls;
 mod changing;
 mod handles;

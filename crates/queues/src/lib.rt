@@ -1,5 +1,6 @@
 // Rows of bytes in lent memory: queues, for keys and for pipes, and what screens show.
 #![tactic(auto)]
+
 mod rings;
 mod shown;
 

@@ -1,6 +1,7 @@
 // run IMAGE EVENTS [FRAMES [BYTES]]: the machine on a disc image. A disc, frames or events that are refused are reported, and the image is left alone; the
 // machine itself is not carried out yet.
 #![tactic(auto)]
+
 use inputs::refusals::check_all;
 use loading::{Told, load_events};
 use std::{env, fs};

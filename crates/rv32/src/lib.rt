@@ -1,5 +1,6 @@
 // The core: what instructions do to the registers of a process and to its memory.
 #![tactic(auto)]
+
 mod compute;
 mod cpu;
 mod executing;

@@ -4,8 +4,8 @@ ghost use Rattle.octets.specs.Rows.{over};
 ghost use Rattle.rv32.specs.Act.{load_size, loaded, store_size, stored, meets, core, shown, Rests, Meets};
 
 use crate::cpu::*;
-use octets::{half, put_half, put_word, word};
 use instructions::{LoadWidth, StoreWidth};
+use octets::{half, put_half, put_word, word};
 
 // How many bytes are loaded.
 pub fn load_size(width: LoadWidth) -> u32

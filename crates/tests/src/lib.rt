@@ -1,5 +1,6 @@
 // Examples of what the crates do, run by the gate. They stand here and not beside the code, since a crate that has tests is proved twice.
 #![tactic(auto)]
+
 #[cfg(test)]
 mod disc_tests;
 #[cfg(test)]

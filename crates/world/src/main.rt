@@ -1,5 +1,6 @@
 // The world carried out as it is defined. It is not built yet: this says so, and how it will be called.
 #![tactic(auto)]
+
 use anyhow::anyhow;
 use std::env;
 
