@@ -171,7 +171,7 @@ impl StoreWidth {
 
 // A register, and the upper 20 bits of a word.
 fn show_upper<W: fmt::Write>(f: &mut fmt::Formatter<W>, name: &str, r: u8, imm: u32) -> fmt::Result
-    ensures { WritesOnOk write_str_gives f.old result (name.now ++ (codes " " ++ two (name_of r) (decimal (imm / 4096)))) f.new }
+    ensures { WritesOnOk W.write_str_gives f.old result (name.now ++ (codes " " ++ two (name_of r) (decimal (imm / 4096)))) f.new }
 {
     write!(f, "{name} {}, {}", register(r), imm >> 12)
 }
@@ -184,7 +184,7 @@ fn show_at<W: fmt::Write>(
     offset: i32,
     base: u8,
 ) -> fmt::Result
-    ensures { WritesOnOk write_str_gives f.old result (name.now ++ (codes " " ++ at (name_of r) offset base)) f.new }
+    ensures { WritesOnOk W.write_str_gives f.old result (name.now ++ (codes " " ++ at (name_of r) offset base)) f.new }
 {
     let (r, base) = (register(r), register(base));
     write!(f, "{name} {r}, {offset}({base})")
@@ -198,7 +198,7 @@ fn show_number<W: fmt::Write>(
     s: u8,
     n: i32,
 ) -> fmt::Result
-    ensures { WritesOnOk write_str_gives f.old result (name.now ++ (codes " " ++ three (name_of r) (name_of s) (signed_decimal n))) f.new }
+    ensures { WritesOnOk W.write_str_gives f.old result (name.now ++ (codes " " ++ three (name_of r) (name_of s) (signed_decimal n))) f.new }
 {
     let (r, s) = (register(r), register(s));
     write!(f, "{name} {r}, {s}, {n}")
@@ -212,7 +212,7 @@ fn show_registers<W: fmt::Write>(
     s: u8,
     t: u8,
 ) -> fmt::Result
-    ensures { WritesOnOk write_str_gives f.old result (name.now ++ (codes " " ++ three (name_of r) (name_of s) (name_of t))) f.new }
+    ensures { WritesOnOk W.write_str_gives f.old result (name.now ++ (codes " " ++ three (name_of r) (name_of s) (name_of t))) f.new }
 {
     let (r, s, t) = (register(r), register(s), register(t));
     write!(f, "{name} {r}, {s}, {t}")
@@ -220,7 +220,7 @@ fn show_registers<W: fmt::Write>(
 
 // What goes before and what after a fence.
 fn show_fence<W: fmt::Write>(f: &mut fmt::Formatter<W>, pred: u8, succ: u8) -> fmt::Result
-    ensures { WritesOnOk write_str_gives f.old result (codes "fence " ++ two (order_name pred) (order_name succ)) f.new }
+    ensures { WritesOnOk W.write_str_gives f.old result (codes "fence " ++ two (order_name pred) (order_name succ)) f.new }
 {
     write!(f, "fence {}, {}", order(pred), order(succ))
 }
