@@ -10,6 +10,7 @@ use disc::format::{format, image_size};
 use disc::read::{file_length, read_file};
 use loading::{Loaded, Told, load_list, tell_memory};
 use std::path::Path;
+use std::process::ExitCode;
 use std::{env, fs};
 use turns::vocabulary::Sizes;
 
@@ -73,8 +74,7 @@ fn write_in(rt: &HostRuntime, folder: &str, name: &str, bytes: &[u8]) -> Result<
 
 // The lines of a list that give the sizes.
 fn size_lines(rt: &HostRuntime, z: Sizes) -> Result<String, Told> {
-    let first = format!(
-        rt.alloc(),
+    let first = format!(in rt.alloc();
         "processes {}\nopens {}\npipes {}\nhandles {}\nmemory {}\npipe {}\nfile {}\nfiles {}\nscreens {}\nturn {}\n",
         z.processes,
         z.opens,
@@ -109,10 +109,10 @@ fn write_file(
     if bytes.len() == 0 {
         return Ok(());
     }
-    let Ok(name) = format!(rt.alloc(), "file{f}") else {
+    let Ok(name) = format!(in rt.alloc(); "file{f}") else {
         return Err(tell_memory(rt));
     };
-    let Ok(line) = format!(rt.alloc(), "put {f} {name}\n") else {
+    let Ok(line) = format!(in rt.alloc(); "put {f} {name}\n") else {
         return Err(tell_memory(rt));
     };
     let Ok(()) = lines.push_str(&line) else {
@@ -147,16 +147,17 @@ fn read_back(rt: &HostRuntime, path: &str, folder: &str) -> Result<(), Told> {
     write_in(rt, folder, "list", lines.as_bytes())
 }
 
-fn main(rt: HostRuntime) -> Result<(), Told> {
-    let Ok(mut words) = env::args(&rt) else {
+// What the words of the command line ask for.
+fn start(rt: &HostRuntime) -> Result<(), Told> {
+    let Ok(mut words) = env::args(rt) else {
         return Err(Told);
     };
     let _ = words.next();
     match (words.next(), words.next(), words.next()) {
-        (Some(list), Some(image), None) => make(&rt, &list, &image),
+        (Some(list), Some(image), None) => make(rt, &list, &image),
         (Some(word), Some(image), Some(folder)) => {
             if word.as_str() == "read" {
-                return read_back(&rt, &image, &folder);
+                return read_back(rt, &image, &folder);
             }
             let _ = eprintln!(rt; "{USAGE}");
             Err(Told)
@@ -165,5 +166,13 @@ fn main(rt: HostRuntime) -> Result<(), Told> {
             let _ = println!(rt; "{USAGE}");
             Ok(())
         }
+    }
+}
+
+// What was wrong has been told, so nothing more is printed.
+fn main(rt: HostRuntime) -> ExitCode {
+    match start(&rt) {
+        Ok(()) => ExitCode::SUCCESS,
+        Err(Told) => ExitCode::FAILURE,
     }
 }

@@ -4,6 +4,7 @@
 
 use inputs::refusals::check_all;
 use loading::{Told, load_events};
+use std::process::ExitCode;
 use std::{env, fs};
 
 const USAGE: &str = "usage: run IMAGE EVENTS [FRAMES [BYTES]]";
@@ -33,8 +34,9 @@ fn run(rt: &HostRuntime, image: &str, events: &str, frames: u32) -> Result<(), T
     }
 }
 
-fn main(rt: HostRuntime) -> Result<(), Told> {
-    let Ok(mut words) = env::args(&rt) else {
+// What the words of the command line ask for.
+fn start(rt: &HostRuntime) -> Result<(), Told> {
+    let Ok(mut words) = env::args(rt) else {
         return Err(Told);
     };
     let _ = words.next();
@@ -43,13 +45,21 @@ fn main(rt: HostRuntime) -> Result<(), Told> {
         return Ok(());
     };
     match words.next() {
-        None => run(&rt, &image, &events, MOST_FRAMES),
+        None => run(rt, &image, &events, MOST_FRAMES),
         Some(word) => match word.parse::<u32>() {
-            Ok(frames) => run(&rt, &image, &events, frames),
+            Ok(frames) => run(rt, &image, &events, frames),
             Err(_) => {
                 let _ = eprintln!(rt; "{USAGE}");
                 Err(Told)
             }
         },
+    }
+}
+
+// What was wrong has been told, so nothing more is printed.
+fn main(rt: HostRuntime) -> ExitCode {
+    match start(&rt) {
+        Ok(()) => ExitCode::SUCCESS,
+        Err(Told) => ExitCode::FAILURE,
     }
 }

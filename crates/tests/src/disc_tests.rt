@@ -80,7 +80,7 @@ fn check_range(rt: &impl Abort, image: &mut [u8], at: usize, least: u32, most: u
 #[test]
 fn sizes_have_ranges(rt: HostRuntime) -> Result<(), Fail> {
     let mut image = [0; 2_048];
-    check(format::format(&mut image, smallest(), &some_files(rt.alloc(), 1, 0)?).is_ok())?;
+    assert!(rt; format::format(&mut image, smallest(), &some_files(rt.alloc(), 1, 0)?).is_ok());
     check_range(&rt, &mut image, 4, 1, 64);
     check_range(&rt, &mut image, 8, 1, 256);
     check_range(&rt, &mut image, 12, 0, 64);
@@ -98,7 +98,7 @@ fn sizes_have_ranges(rt: HostRuntime) -> Result<(), Fail> {
 #[test]
 fn lengths_names_and_frames(rt: HostRuntime) -> Result<(), Fail> {
     let mut image = [0; 2_048];
-    check(format::format(&mut image, smallest(), &some_files(rt.alloc(), 1, 0)?).is_ok())?;
+    assert!(rt; format::format(&mut image, smallest(), &some_files(rt.alloc(), 1, 0)?).is_ok());
     assert_eq!(rt; refusal(&image, 81 * 4_096), (0, 0));
     assert_eq!(rt; refusal(&image, 81 * 4_096 - 1), (5, 81));
     assert_eq!(rt; refusal(&image[0..2_047], 0), (1, 2_047));
@@ -134,13 +134,14 @@ fn one_header_counts(rt: HostRuntime) -> Result<(), Fail> {
     let mut image = [0; 4_096];
     let mut sizes = smallest();
     sizes.file = 1;
-    check(format::format(&mut image, sizes, &some_files(rt.alloc(), 1, 1)?).is_ok())?;
+    assert!(rt; format::format(&mut image, sizes, &some_files(rt.alloc(), 1, 1)?).is_ok());
     check_headers(&rt, &mut image);
     Ok(())
 }
 
 // A disc is made over whatever was there, is taken, and holds just its files.
 fn check_made(
+    rt: &impl Abort,
     heap: Global,
     image: &mut [u8],
     sizes: Sizes,
@@ -148,17 +149,18 @@ fn check_made(
     long: usize,
 ) -> Result<(), Fail> {
     let files = some_files(heap, count, long)?;
-    check(format::format(image, sizes, &files).is_ok())?;
+    assert!(rt; format::format(image, sizes, &files).is_ok());
     let Ok(found) = check::check_disc(image) else {
         return Err(Fail::new("refused"));
     };
-    check(read::holds_files(image, found, &files))
+    assert!(rt; read::holds_files(image, found, &files));
+    Ok(())
 }
 
 #[test]
 fn made_and_read(rt: HostRuntime) -> Result<(), Fail> {
     let mut small = [7; 2_048];
-    check_made(rt.alloc(), &mut small, smallest(), 1, 0)?;
+    check_made(&rt, rt.alloc(), &mut small, smallest(), 1, 0)?;
     let mut large = vec![in rt.alloc(); 7; 65_556 * 512]?;
-    check_made(rt.alloc(), &mut large, largest(), 64, 262_144)
+    check_made(&rt, rt.alloc(), &mut large, largest(), 64, 262_144)
 }

@@ -44,7 +44,8 @@ fn a_script(rt: HostRuntime) -> Result<(), Fail> {
     match read_script(rt.alloc(), text) {
         Ok(bytes) => {
             assert!(rt;
-                bytes.as_slice() == [0, 44, 1, 0, 0, 1, 0, 107, 1, 1, 7, 2, 3, 0, 0, 0, 255]
+                bytes.as_slice()
+                    == [0, 44, 1, 0, 0, 1, 0, 107, 1, 1, 7, 2, 3, 0, 0, 0, 255].as_slice()
             );
             assert_eq!(rt; refused(&bytes), None);
             Ok(())

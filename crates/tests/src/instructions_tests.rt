@@ -61,9 +61,9 @@ const INSTRUCTIONS: [(u32, &str); 53] = [
 
 #[test]
 fn words_decode(rt: HostRuntime) -> Result<(), Fail> {
-    for (word, text) in INSTRUCTIONS {
+    for (word, text) in INSTRUCTIONS.iter().copied() {
         let instruction = decode(word).ok_or(text)?;
-        assert_eq!(rt; format!(rt.alloc(), "{instruction}")?.as_str(), text);
+        assert_eq!(rt; format!(in rt.alloc(); "{instruction}")?.as_str(), text);
         assert_eq!(rt; encode(instruction), Some(word), "{}", text);
     }
     Ok(())

@@ -22,7 +22,7 @@ fn grow(rt: HostRuntime) -> Result<(), Fail> {
     assert!(rt; screens.append(&mut row, 3, b"xy"));
     assert!(rt; screens.append(&mut row, 0, b"abc"));
     assert!(rt; !screens.append(&mut row, 15, b"z"));
-    assert!(rt; screens.screen(&row, 0) == b"abc");
-    assert!(rt; screens.screen(&row, 3) == b"xy");
+    assert!(rt; screens.screen(&row, 0) == b"abc".as_slice());
+    assert!(rt; screens.screen(&row, 3) == b"xy".as_slice());
     Ok(())
 }

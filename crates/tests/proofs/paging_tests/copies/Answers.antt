@@ -3,16 +3,16 @@ use Rattle.paging.proofs.Rows.{begun_held, begun_other}
 use Rattle.tests.proofs.paging_tests.copies.Goals as goal
 
 pub begin-requires : goal.begin-requires
-begin-requires c = record { sound = c.set_up-paging.ensures.sound; enough = c.set_up-paging.ensures.enough; process = omega arith; none = c.set_up-paging.ensures.none 0 }
+begin-requires g c = record { sound = c.set_up-paging.ensures.sound; enough = c.set_up-paging.ensures.enough; process = omega arith; none = c.set_up-paging.ensures.none 0 }
 
 pub store_word-requires : goal.store_word-requires
-store_word-requires c = record { sound = c.begin.ensures.begun.sound; process = omega arith; aligned = refl; holds = λ h. absurd (omega (arith, c.none-cache.ensures.beyond)) }
+store_word-requires g c = record { sound = c.begin.ensures.begun.sound; process = omega arith; aligned = refl; holds = λ h. absurd (omega (arith, c.none-cache.ensures.beyond)) }
 
 pub store_word-requires-2 : goal.store_word-requires-2
-store_word-requires-2 c = record { sound = c.store_word.ensures.only.sound; process = omega arith; aligned = refl; holds = c.store_word.ensures.holds }
+store_word-requires-2 g c = record { sound = c.store_word.ensures.only.sound; process = omega arith; aligned = refl; holds = c.store_word.ensures.holds }
 
 pub begin_copy-requires : goal.begin_copy-requires
-begin_copy-requires c =
+begin_copy-requires g c =
     let s = c.set_up-paging.ensures.sound in
     let b = c.begin.ensures.begun in
     record {
@@ -25,10 +25,10 @@ begin_copy-requires c =
     }
 
 pub load_byte-requires : goal.load_byte-requires
-load_byte-requires c = record { sound = c.begin_copy.ensures.begun.sound; process = omega arith; holds = λ h. absurd (omega (arith, c.none-copy.ensures.beyond)) }
+load_byte-requires g c = record { sound = c.begin_copy.ensures.begun.sound; process = omega arith; holds = λ h. absurd (omega (arith, c.none-copy.ensures.beyond)) }
 
 pub load_byte-requires-2 : goal.load_byte-requires-2
-load_byte-requires-2 c = record { sound = c.begin_copy.ensures.begun.sound; process = omega arith; holds = c.load_byte.ensures.holds }
+load_byte-requires-2 g c = record { sound = c.begin_copy.ensures.begun.sound; process = omega arith; holds = c.load_byte.ensures.holds }
 
 pub load_byte-requires-3 : goal.load_byte-requires-3
-load_byte-requires-3 c = record { sound = c.begin_copy.ensures.begun.sound; process = omega arith; holds = c.load_byte-2.ensures.holds }
+load_byte-requires-3 g c = record { sound = c.begin_copy.ensures.begun.sound; process = omega arith; holds = c.load_byte-2.ensures.holds }
