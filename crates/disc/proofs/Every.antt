@@ -1,16 +1,16 @@
 -- Every list of files that fits has a disc: an image is laid out by definitions alone. Assumes nothing.
-use Rattle.std.proofs.Common.{◌≡◌, ℕ, zero, suc, ◌+◌, ◌*◌, ◌^◌, ◌<◌, ◌≤◌, true, ◌⊎◌, List, [], ◌∷◌, ◌++◌, length, get_or, replicate, sym, refl, ap, ◌∙◌, subst, inl, inr, add-one, arith}
+use Rattle.std.proofs.Common.{◌≡◌, ℕ, zero, suc, ◌+◌, ◌*◌, ◌<◌, ◌≤◌, true, ◌⊎◌, List, [], ◌∷◌, ◌++◌, length, get_or, replicate, refl, ◌∙◌, subst, inl, inr, arith}
 use lib.ListN.{length-replicate}
 use Rattle.octets.specs.Rows.{over, Bytes}
-use Rattle.octets.specs.Words.{word_at, word_bytes}
+use Rattle.octets.specs.Words.{word_bytes}
 use Rattle.octets.proofs.Over.{length_over, get_or_over_in, get_or_over_out, bytes_over, bytes_append, bytes_zeros}
 use Rattle.octets.proofs.Numbers.{word_digits, word_over, word_over_out}
 use Rattle.octets.proofs.Tests.{get_or_all}
-use Rattle.turns.specs.Ranges.{InRange, Fits}
+use Rattle.turns.specs.Ranges.{InRange}
 use Rattle.turns.specs.declared.vocabulary.Sizes.{Sizes}
 use Rattle.disc.specs.Blocks.{blocks}
 use Rattle.disc.specs.Layout.{plan_of, data_at, room, Fit}
-use Rattle.disc.specs.Check.{named, sizes_in, Holds}
+use Rattle.disc.specs.Check.{named, sizes_in}
 use Rattle.disc.specs.Format.{Laid, EveryList}
 use Rattle.disc.specs.declared.layout.Plan.{Plan}
 use Rattle.disc.proofs.Places.{fits, row_in}

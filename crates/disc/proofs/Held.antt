@@ -1,5 +1,5 @@
 -- The files that a taken disc holds, as the code reads them. Assumes nothing.
-use Rattle.std.proofs.Common.{◌≡◌, ℕ, zero, suc, ◌+◌, ◌-◌, ◌*◌, ◌/◌, ◌<◌, ◌≤◌, List, [], map, length, get_or, take, drop, sym, refl, ap, ◌∙◌, subst, ⊎_elim, arith}
+use Rattle.std.proofs.Common.{◌≡◌, ℕ, zero, suc, ◌+◌, ◌*◌, ◌<◌, ◌≤◌, List, [], length, get_or, take, drop, sym, ap, ◌∙◌, subst, ⊎_elim, arith}
 use Rattle.std.specs.List.{range_with_len, flat_map}
 use Rattle.std.proofs.lemmas.List.{ext_get_or, length-take, length-drop, get_or-take, get_or-drop, get_or_past}
 use Rattle.std.proofs.lemmas.Bool.{cases_lt}
@@ -8,7 +8,7 @@ use Rattle.octets.proofs.Over.{bytes_take, bytes_append}
 use Rattle.std.proofs.lemmas.List.FromFn.{get_or-map-range_with_len, length-map-range_with_len, fill_by_all}
 use Rattle.turns.specs.declared.vocabulary.Sizes.{Sizes}
 use Rattle.disc.specs.Blocks.{Disc, at, blocks}
-use Rattle.disc.specs.Layout.{Header, plan_of, place, room, current_header, length_in, copy_in, cell, file_in, files_in, files_on, Fit, Sound}
+use Rattle.disc.specs.Layout.{Header, plan_of, place, room, current_header, length_in, copy_in, cell, file_in, files_in, files_on, Sound}
 use Rattle.disc.specs.Check.{Taken, Holds}
 use Rattle.disc.specs.Format.{HeldFits}
 use Rattle.disc.specs.declared.layout.Plan.{Plan}

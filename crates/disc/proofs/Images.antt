@@ -1,12 +1,12 @@
 -- An image that is laid out step by step: what holds after each file, and that a whole one is a disc that holds them. Assumes nothing.
-use Rattle.std.proofs.Common.{◌≡◌, ℕ, zero, suc, ◌+◌, ◌-◌, ◌*◌, ◌/◌, ◌%◌, ◌^◌, ◌<◌, ◌≤◌, true, ◌≢◌, ◌⊎◌, List, [], ◌∷◌, ◌++◌, map, length, get_or, take, drop, set, replicate, sym, refl, ap, ◌∙◌, subst, inl, inr, ⊎_elim, arith}
+use Rattle.std.proofs.Common.{◌≡◌, ℕ, ◌+◌, ◌-◌, ◌*◌, ◌/◌, ◌%◌, ◌^◌, ◌<◌, ◌≤◌, true, ◌⊎◌, List, [], ◌∷◌, length, get_or, take, set, replicate, sym, refl, ap, ◌∙◌, subst, inl, inr, ⊎_elim, arith}
 use native.Mathlib.Nat.{zero-div}
 use borrow.Rule.Slice.PartMut.{put_mid}
-use Rattle.std.proofs.lemmas.List.{length-append, length-take, length-drop, length-set, get_or_append_left, get_or-append_right, get_or-take, get_or-drop, get_or-set_same, get_or-set_other, ext_get_or}
+use Rattle.std.proofs.lemmas.List.{length-take, get_or_append_left, get_or-append_right, get_or-take, get_or-drop, get_or-set_other, ext_get_or}
 use Rattle.std.proofs.lemmas.List.FromFn.{get_or-map-range_with_len, fill_by_all}
 use Rattle.std.proofs.lemmas.Nat.{mul-add-lt}
 use Rattle.std.proofs.lemmas.Slice.{drop-put_mid}
-use Rattle.std.proofs.lemmas.Bool.{cases_lt, cases_eq}
+use Rattle.std.proofs.lemmas.Bool.{cases_lt}
 use Rattle.octets.specs.Rows.{over, Bytes}
 use Rattle.octets.specs.Words.{word_at, word_bytes}
 use Rattle.octets.proofs.Over.{length_over, get_or_over_out}
@@ -14,9 +14,9 @@ use Rattle.octets.proofs.Tests.{get_or_all}
 use Rattle.octets.proofs.Numbers.{word_over, word_over_out}
 use Rattle.turns.specs.Ranges.{InRange, Fits}
 use Rattle.turns.specs.declared.vocabulary.Sizes.{Sizes}
-use Rattle.disc.specs.Blocks.{Disc, at, blocks}
+use Rattle.disc.specs.Blocks.{at, blocks}
 use Rattle.disc.specs.Layout.{plan_of, head_at, data_at, place, room, current, header, current_header, length_in, copy_in, file_in, files_in, files_on, Sound, Fit}
-use Rattle.disc.specs.Check.{named, sizes_in, Taken, Holds}
+use Rattle.disc.specs.Check.{named, sizes_in, Holds}
 use Rattle.disc.specs.Format.{image_length, Short, Misfits, Planned, Laid}
 use Rattle.disc.specs.declared.format.Misfit.{Misfit}
 use Rattle.disc.specs.declared.format.Misfit.TheVariants.{Size, Count, File, Image}

@@ -1,5 +1,5 @@
 -- Bytes of headers and of files, as the code finds them. Assumes nothing.
-use Rattle.std.proofs.Common.{◌≡◌, ℕ, zero, suc, ◌+◌, ◌-◌, ◌*◌, ◌/◌, ◌%◌, ◌^◌, ◌<◌, ◌≤◌, ◌≢◌, ◌⊎◌, List, [], ◌∷◌, ◌++◌, map, length, get_or, take, drop, set, sym, refl, ap, ◌∙◌, subst, inl, inr, ⊎_elim, mul-le-mul_right, mul-le-mul, arith}
+use Rattle.std.proofs.Common.{◌≡◌, ℕ, zero, suc, ◌+◌, ◌-◌, ◌*◌, ◌/◌, ◌%◌, ◌^◌, ◌<◌, ◌≤◌, List, [], map, length, get_or, take, drop, sym, refl, ap, ◌∙◌, ⊎_elim, mul-le-mul_right, mul-le-mul, arith}
 use Rattle.std.specs.List.{range_with_len, flat_map}
 use Rattle.std.proofs.lemmas.Nat.{mul-add-lt}
 use Rattle.std.proofs.lemmas.List.FromFn.{fill_by_all}
@@ -9,7 +9,7 @@ use Rattle.octets.specs.Words.{word_at}
 use Rattle.turns.specs.Ranges.{InRange}
 use Rattle.turns.specs.declared.vocabulary.Sizes.{Sizes}
 use Rattle.disc.specs.Blocks.{Disc, at, blocks, block_of}
-use Rattle.disc.specs.Layout.{Header, plan_of, Fit, head_at, data_at, place, room, current, header, current_header, length_in, copy_in, cell, file_in}
+use Rattle.disc.specs.Layout.{Header, plan_of, Fit, head_at, place, room, current, header, current_header, length_in, copy_in, cell, file_in}
 use Rattle.disc.specs.declared.layout.Plan.{Plan}
 use Rattle.disc.proofs.Cuts.{length_blocks, get_or_blocks, blocks_whole}
 

@@ -1,20 +1,20 @@
 -- What the refusals are, and that a disc is taken if and only if there is none. Assumes nothing.
-use Rattle.std.proofs.Common.{◌≡◌, ℕ, zero, suc, ◌+◌, ◌-◌, ◌*◌, ◌/◌, ◌%◌, ◌<◌, ◌≤◌, Bool, true, false, cond, not, ◌&&◌, ◌||◌, eqb, ltb, leb, ◌⊎◌, List, [], ◌∷◌, length, get_or, drop, Some, None, Option, sym, refl, ap, ◌∙◌, subst, inl, inr, ⊎_elim, arith}
+use Rattle.std.proofs.Common.{◌≡◌, ℕ, zero, suc, ◌+◌, ◌-◌, ◌*◌, ◌/◌, ◌%◌, ◌<◌, ◌≤◌, Bool, true, false, ◌&&◌, eqb, ltb, leb, List, [], ◌∷◌, length, get_or, drop, Some, None, Option, sym, refl, ap, ◌∙◌, ⊎_elim, arith}
 use Rattle.std.proofs.lemmas.List.{get_or_past}
 use Rattle.std.proofs.lemmas.List.FromFn.{get_or-map-range_with_len}
-use Rattle.std.proofs.lemmas.Bool.{cond_both, cond-true, cond-false, both_ways, cases_Bool, cases_eq, cases_lt, and_parts, and_from, or_parts, or_from, or_left, or_right, and_left, leb-true, leb-false, le-leb, lt-leb, ltb-true, ltb-false, lt-ltb, le-ltb, eqb-true, eq-eqb, ne_eqb, false≢true}
-use Rattle.octets.specs.Rows.{lowest, some, Bytes}
+use Rattle.std.proofs.lemmas.Bool.{cond-true, cond-false, both_ways, cases_Bool, cases_eq, cases_lt, and_parts, and_from, or_parts, or_from, or_left, or_right, and_left, leb-true, leb-false, le-leb, lt-leb, ltb-false, lt-ltb, le-ltb, eqb-true, eq-eqb, ne_eqb}
+use Rattle.octets.specs.Rows.{lowest, Bytes}
 use Rattle.octets.specs.Words.{word_at}
 use Rattle.octets.proofs.Over.{bytes_take, bytes_drop}
 use Rattle.octets.proofs.Lowest.{lowest_le, lowest_holds, lowest_below, some_at, some_none}
 use Rattle.turns.specs.Ranges.{InRange}
 use Rattle.turns.specs.declared.vocabulary.Sizes.{Sizes}
-use Rattle.disc.specs.Blocks.{Disc, at, blocks, Whole}
-use Rattle.disc.specs.Layout.{plan_of, head_at, room, current, header, current_header, length_in, Sound, Fit}
+use Rattle.disc.specs.Blocks.{Disc, at, blocks}
+use Rattle.disc.specs.Layout.{plan_of, head_at, room, current, header, current_header, length_in, Sound}
 use Rattle.disc.specs.declared.layout.Plan.{Plan}
-use Rattle.disc.specs.Check.{named, sizes_in, between, pages, ranges, first_false, first_out, too_long, wrong, first_wrong, frames_for, length_refusal, name_refusal, size_refusal, block_refusal, frame_refusal, first_of, disc_sizes, disc_refusal, refusal_of, Taken, TakenBytes, Enough}
+use Rattle.disc.specs.Check.{named, sizes_in, between, ranges, first_false, first_out, too_long, wrong, first_wrong, frames_for, length_refusal, name_refusal, size_refusal, block_refusal, frame_refusal, first_of, disc_sizes, disc_refusal, refusal_of, TakenBytes, Enough}
 use Rattle.disc.specs.declared.check.Refusal.{Refusal}
-use Rattle.disc.specs.declared.check.Refusal.TheVariants.{Length, Name, Size, Block, Frames}
+use Rattle.disc.specs.declared.check.Refusal.TheVariants.{Length, Name, Block, Frames}
 use Rattle.disc.proofs.Cuts.{length_blocks, get_or_blocks, blocks_whole}
 use Rattle.disc.proofs.Places.{first_byte, first_word, below_two, current_two}
 

@@ -1,7 +1,7 @@
 -- How files lie on a disc: [0 sizes][1 root][header A][header B][copy A][copy B]. Assumes nothing: these are definitions.
 -- The root block says which of the two headers counts. A header is a block of lengths, one a file, and blocks of bits, one a block of a file: which of its two
 -- copies counts. So a file is what its blocks hold where they count, up to its length; the other copies and the other header are free to be written.
-use Rattle.std.specs.Prelude.{◌≡◌, ℕ, ◌+◌, ◌*◌, ◌/◌, ◌%◌, ◌^◌, ◌<◌, ◌≤◌, ◌≢◌, List, map, take, slice_index}
+use Rattle.std.specs.Prelude.{ℕ, ◌+◌, ◌*◌, ◌/◌, ◌%◌, ◌^◌, ◌<◌, ◌≤◌, List, map, take, slice_index}
 use Rattle.std.specs.List.{range_with_len, flat_map}
 use Rattle.octets.specs.Words.{word_at}
 use Rattle.turns.specs.declared.vocabulary.Sizes.{Sizes}

@@ -4,7 +4,6 @@ use Rattle.std.proofs.lemmas.Bool.{lt-ltb, ltb-true}
 use Rattle.paging.specs.declared.Paging.{Paging}
 use Rattle.paging.specs.declared.Cache.{Cache}
 use Rattle.paging.specs.Tables.{frame_of, place}
-use Rattle.paging.specs.Tables.Slot.{page}
 use Rattle.paging.specs.Pages.{held, Byte, Sound, Remembers}
 use Rattle.paging.specs.Accesses.{has, if_has, Within}
 use Rattle.paging.proofs.Filling.{place_above, place_within}

@@ -1,5 +1,5 @@
 -- The tables at the start. Assumes nothing.
-use Rattle.std.proofs.Common.{◌≡◌, ℕ, zero, suc, ◌+◌, ◌-◌, ◌<◌, ◌≤◌, true, false, List, [], ◌∷◌, length, get_or, set, replicate, Some, None, Option, sym, refl, ap, ◌∙◌, arith}
+use Rattle.std.proofs.Common.{◌≡◌, ℕ, zero, suc, ◌-◌, ◌<◌, List, ◌∷◌, length, get_or, set, replicate, Some, None, Option, sym, refl, ap, ◌∙◌, arith}
 use Rattle.std.proofs.lemmas.List.{length-replicate, get_or-set_same, get_or-set_other, length-set}
 use Rattle.std.proofs.lemmas.Bool.{both_ways}
 use Rattle.octets.proofs.Tests.{get_or_all, get_or_set_by}
@@ -7,14 +7,14 @@ use Rattle.turns.specs.Ranges.{InRange}
 use Rattle.turns.specs.World.{process, nobody, opened, closed, is_running, begin, loaded}
 use Rattle.turns.specs.World as W
 use Rattle.turns.specs.declared.vocabulary.Sizes.{Sizes}
-use Rattle.turns.specs.declared.vocabulary.State.TheVariants.{Free, Runs, Left}
+use Rattle.turns.specs.declared.vocabulary.State.TheVariants.{Free}
 use Rattle.turns.specs.declared.vocabulary.End.TheVariants.{Screen}
 use Rattle.turns.specs.declared.vocabulary.OpenThing.{OpenThing}
 use Rattle.rv32.specs.declared.cpu.Cpu.{Cpu}
 use Rattle.rv32.specs.Act.{core}
 use Rattle.processes.specs.declared.Process.{Process}
 use Rattle.processes.specs.declared.Tables.{Tables}
-use Rattle.processes.specs.Tabled.{Sound, Tabled, Same, Worlds, blank, shut}
+use Rattle.processes.specs.Tabled.{Sound, Tabled, Same, blank, shut}
 use Rattle.processes.specs.Changes.{empty, first}
 
 -- what holds of an element of a row of equals, and past it

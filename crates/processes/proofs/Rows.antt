@@ -1,6 +1,6 @@
 -- Elements past the end of a row, and searches by tests that agree. Assumes nothing.
-use Rattle.std.proofs.Common.{◌≡◌, ℕ, zero, suc, ◌-◌, ◌<◌, ◌≤◌, Bool, true, false, ltb, List, [], ◌∷◌, length, get_or, sym, refl, ap, ◌∙◌, arith}
-use Rattle.octets.specs.Rows.{pick, lowest_from, lowest, some}
+use Rattle.std.proofs.Common.{◌≡◌, ℕ, zero, suc, ◌-◌, ◌<◌, ◌≤◌, Bool, true, false, ltb, List, [], ◌∷◌, length, get_or, sym, refl, ap, arith}
+use Rattle.octets.specs.Rows.{lowest_from, lowest, some}
 use Rattle.octets.proofs.Lowest.{lowest_end, some_at}
 use Rattle.std.proofs.lemmas.Bool.{le-ltb}
 

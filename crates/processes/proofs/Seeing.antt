@@ -1,6 +1,6 @@
 -- What is seen in tables is so in their worlds. Assumes nothing.
-use Rattle.std.proofs.Common.{◌≡◌, ℕ, ◌+◌, ◌-◌, ◌<◌, ◌≤◌, Bool, true, false, not, ◌&&◌, eqb, length, get_or, None, sym, refl, ap, ◌∙◌, arith}
-use Rattle.octets.specs.Rows.{some, lowest, lowest_from}
+use Rattle.std.proofs.Common.{◌≡◌, ℕ, ◌+◌, ◌-◌, ◌<◌, ◌≤◌, Bool, true, false, not, ◌&&◌, eqb, length, get_or, None, sym, ap, ◌∙◌, arith}
+use Rattle.octets.specs.Rows.{some}
 use Rattle.turns.specs.World.{process, runs_in, has_open, leads_to, is_running, is_free, is_child, named}
 use Rattle.turns.specs.declared.vocabulary.Sizes.{Sizes}
 use Rattle.turns.specs.declared.vocabulary.End.TheVariants.{Nothing, Screen, File}

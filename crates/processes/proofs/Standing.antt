@@ -1,11 +1,9 @@
 -- The laws of tables and their worlds. Assumes nothing.
-use Rattle.std.proofs.Common.{◌≡◌, ℕ, List, get_or, Some, None, sym, refl, ap, ◌∙◌}
+use Rattle.std.proofs.Common.{◌≡◌, get_or, sym, refl, ap, ◌∙◌}
 use Rattle.std.proofs.lemmas.List.{length-set}
 use Rattle.octets.proofs.Tests.{get_or_set_by}
 use Rattle.turns.specs.World.{process, nobody, opened, runs_in, is_running, handle_of, with_process, with_memory, with_pipe, with_file, with_keys, with_shown}
-use Rattle.turns.specs.World as W
 use Rattle.turns.proofs.Holds.{uses}
-use Rattle.rv32.specs.declared.cpu.Cpu.{Cpu}
 use Rattle.rv32.specs.Act.{core}
 use Rattle.processes.specs.declared.Tables.{Tables}
 use Rattle.processes.specs.Tabled.{Tabled, Same, Worlds, place}

@@ -1,10 +1,10 @@
 -- What tables say of the world. Assumes nothing: these are definitions.
-use Rattle.std.specs.Prelude.{◌≡◌, ℕ, ◌<◌, true, List, [], length, Some, None, slice_index_or}
+use Rattle.std.specs.Prelude.{◌≡◌, ℕ, ◌<◌, true, [], length, None, slice_index_or}
 use Rattle.turns.specs.Ranges.{InRange}
 use Rattle.turns.specs.World.{World, Done, process, opened, closed, is_running}
 use Rattle.turns.specs.World as W
 use Rattle.turns.specs.declared.vocabulary.Sizes.{Sizes}
-use Rattle.turns.specs.declared.vocabulary.State.TheVariants.{Free, Runs, Left}
+use Rattle.turns.specs.declared.vocabulary.State.TheVariants.{Free}
 use Rattle.turns.specs.declared.vocabulary.End.TheVariants.{Nothing}
 use Rattle.turns.specs.declared.vocabulary.OpenThing.{OpenThing}
 use Rattle.turns.specs.declared.vocabulary.Outcome.{Outcome}

@@ -1,5 +1,5 @@
 -- A queue of bytes as a ring in a row of 4,096 bytes: behind the row's last byte comes its first. Assumes nothing: these are definitions.
-use Rattle.std.specs.Prelude.{◌≡◌, ℕ, ◌+◌, ◌*◌, ◌%◌, ◌<◌, ◌≤◌, List, [], map, length, drop, ◌≢◌, slice_index}
+use Rattle.std.specs.Prelude.{◌≡◌, ℕ, ◌+◌, ◌*◌, ◌%◌, ◌<◌, ◌≤◌, List, [], map, drop, ◌≢◌, slice_index}
 use Rattle.std.specs.List.{range_with_len}
 use Rattle.queues.specs.declared.Queue.{Queue}
 

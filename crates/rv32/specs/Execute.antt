@@ -1,5 +1,5 @@
 -- What each instruction does to the registers, and what it leaves to be done. Assumes nothing: these are definitions.
-use Rattle.std.specs.Prelude.{◌≡◌, ℕ, ◌+◌, ◌*◌, ◌/◌, ◌%◌, ◌^◌, ◌<◌, cond, set, replicate, ℤ, Some, None, Option, ◌==◌, slice_index, slice_set}
+use Rattle.std.specs.Prelude.{◌≡◌, ℕ, ◌+◌, ◌*◌, ◌/◌, ◌%◌, ◌^◌, ◌<◌, cond, replicate, ℤ, Some, None, Option, ◌==◌, slice_index, slice_set}
 use Rattle.turns.specs.declared.vocabulary.Call.{Call}
 use Rattle.turns.specs.declared.vocabulary.Call.TheVariants as C
 use Rattle.instructions.specs.declared.instruction.Instruction.{Instruction}

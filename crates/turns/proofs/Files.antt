@@ -1,5 +1,5 @@
 -- What becomes of files. Assumes nothing.
-use Rattle.std.proofs.Common.{◌≡◌, ℕ, ◌-◌, true, ◌⊎◌, List, [], get_or, set, sym, refl, ap, ◌∙◌, inl, inr}
+use Rattle.std.proofs.Common.{◌≡◌, ℕ, true, ◌⊎◌, List, [], get_or, set, sym, refl, ap, ◌∙◌, inl, inr}
 use Rattle.octets.proofs.Tests.{get_or_set_by}
 use Rattle.turns.specs.Core.{Core}
 use Rattle.turns.specs.World.{World, runs_in, event}

@@ -1,5 +1,5 @@
 -- Rounds in which every place only waits can be left out. Assumes nothing.
-use Rattle.std.proofs.Common.{◌≡◌, ℕ, zero, suc, ◌+◌, ◌-◌, ◌*◌, ◌/◌, ◌%◌, ◌<◌, ◌≤◌, true, ◌⊎◌, sym, refl, ap, ◌∙◌, subst, inl, inr, ⊎_elim, div-add-mod', arith}
+use Rattle.std.proofs.Common.{◌≡◌, ℕ, zero, suc, ◌+◌, ◌*◌, ◌/◌, ◌%◌, ◌<◌, ◌≤◌, true, ◌⊎◌, sym, refl, ap, ◌∙◌, subst, inl, inr, ⊎_elim, div-add-mod', arith}
 use Rattle.octets.proofs.Tests.{pick_both, pick_true, pick_false}
 use Rattle.turns.specs.Core.{Core}
 use Rattle.turns.specs.World.{World, Done, process, runs_in, event, run, ticks}

@@ -1,5 +1,5 @@
 -- Processes that run are left alone by others. Assumes nothing.
-use Rattle.std.proofs.Common.{◌≡◌, ℕ, zero, suc, ◌-◌, true, false, ◌&&◌, ◌≢◌, List, [], ◌∷◌, map, get_or, set, sym, refl, subst}
+use Rattle.std.proofs.Common.{◌≡◌, ℕ, zero, suc, true, false, ◌&&◌, ◌≢◌, List, [], ◌∷◌, map, get_or, set, sym, refl, subst}
 use Rattle.octets.proofs.Tests.{get_or_set_by}
 use Rattle.turns.specs.Core.{Core}
 use Rattle.turns.specs.World.{World, Process, process, nobody, runs_in, event}

@@ -1,5 +1,5 @@
 -- Rows of events: in parts, tick by tick, and what is sure after them. Assumes nothing.
-use Rattle.std.proofs.Common.{◌≡◌, ℕ, zero, suc, ◌+◌, ◌-◌, ◌≤◌, false, List, [], ◌∷◌, ◌++◌, length, refl, ap, ◌∙◌, arith}
+use Rattle.std.proofs.Common.{◌≡◌, ℕ, zero, suc, ◌+◌, ◌≤◌, false, List, [], ◌∷◌, ◌++◌, length, refl, ap, ◌∙◌, arith}
 use Rattle.octets.specs.Rows.{pick}
 use Rattle.octets.proofs.Tests.{pick_both, pick_false}
 use Rattle.turns.specs.Core.{Core}

@@ -1,5 +1,5 @@
 -- What becomes of screens. Assumes nothing.
-use Rattle.std.proofs.Common.{◌≡◌, ℕ, ◌+◌, ◌-◌, List, [], ◌++◌, get_or, set, sym, refl, ap, ◌∙◌}
+use Rattle.std.proofs.Common.{◌≡◌, ℕ, List, [], ◌++◌, get_or, set, sym, refl, ap, ◌∙◌}
 use Rattle.octets.proofs.Tests.{get_or_set_by}
 use Rattle.turns.specs.Core.{Core}
 use Rattle.turns.specs.World.{World, event}

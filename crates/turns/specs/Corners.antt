@@ -4,7 +4,6 @@ use Rattle.turns.specs.Core.{Core, wrong}
 use Rattle.turns.specs.World.{World, process, does, event, run, begin, opened, pipe_of, file_of, no}
 use Rattle.turns.specs.declared.vocabulary.Sizes.{Sizes}
 use Rattle.turns.specs.declared.vocabulary.State.TheVariants.{Left}
-use Rattle.turns.specs.declared.vocabulary.End.TheVariants as end
 use Rattle.turns.specs.declared.vocabulary.Call.{Call}
 use Rattle.turns.specs.declared.vocabulary.Call.TheVariants.{Leave, Fork, Wait, Exec, Open, Close, Copy, Pipe, Read, Write, End, Unknown}
 use Rattle.turns.specs.declared.vocabulary.Outcome.{Outcome}

@@ -1,6 +1,6 @@
 -- What holds of the world, whatever the core and whatever the programs. Each is a statement over the type of a core's registers; its proof is owed by the
 -- function of src/ whose contract names it. Assumes nothing.
-use Rattle.std.specs.Prelude.{◌≡◌, ℕ, zero, suc, ◌+◌, ◌*◌, ◌%◌, ◌<◌, ◌≤◌, true, false, ◌≢◌, ◌⊎◌, List, [], ◌∷◌, ◌++◌, length, take, Some}
+use Rattle.std.specs.Prelude.{◌≡◌, ℕ, zero, suc, ◌*◌, ◌%◌, ◌<◌, ◌≤◌, true, false, ◌≢◌, ◌⊎◌, List, [], ◌∷◌, ◌++◌, length, take, Some}
 use Rattle.octets.specs.Rows.{Bytes}
 use Rattle.turns.specs.Core.{Core, asks, store}
 use Rattle.turns.specs.World.{World, Process, run, begin, event, process, runs_in, opened, pipe_of, file_of, keys_of, shown_on, handle_of, end_of, ticks, instruction, does}

@@ -1,4 +1,4 @@
-use Rattle.std.proofs.Common.{◌≡◌, length, set, ap, ◌∙◌, arith, rules}
+use Rattle.std.proofs.Common.{length, set, ap, ◌∙◌, arith}
 use Rattle.disc.specs.Blocks.{blocks}
 use Rattle.disc.proofs.Cuts.{blocks_put}
 use Rattle.disc.proofs.blocks.overwrite.Goals as goal

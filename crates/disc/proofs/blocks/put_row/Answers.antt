@@ -1,4 +1,4 @@
-use Rattle.std.proofs.Common.{◌≡◌, ap, ◌∙◌, arith, rules}
+use Rattle.std.proofs.Common.{arith}
 use Rattle.disc.specs.Blocks.{blocks}
 use Rattle.disc.specs.Blocks.{at}
 use Rattle.disc.proofs.Cuts.{cut_block}

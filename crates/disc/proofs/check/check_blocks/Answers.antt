@@ -1,7 +1,7 @@
-use Rattle.std.proofs.Common.{◌≡◌, ℕ, ◌<◌, false, List, length, sym, ap, ◌∙◌, arith}
+use Rattle.std.proofs.Common.{◌≡◌, ◌<◌, false, length, sym, ap, ◌∙◌, arith}
 use Rattle.disc.specs.Blocks.{at, blocks}
-use Rattle.disc.specs.Layout.{head_at, room, current}
-use Rattle.disc.specs.Check.{too_long, block_refusal}
+use Rattle.disc.specs.Layout.{head_at}
+use Rattle.disc.specs.Check.{too_long}
 use Rattle.disc.proofs.Cuts.{cut_block, length_blocks}
 use Rattle.disc.proofs.Verdicts.{lengths_refused, missing_refused, blocks_passed}
 use Rattle.disc.proofs.check.check_blocks.Goals as goal

@@ -1,4 +1,4 @@
-use Rattle.std.proofs.Common.{◌≡◌, sym, arith}
+use Rattle.std.proofs.Common.{sym, arith}
 use Rattle.disc.proofs.Verdicts.{ten, first_out_at, first_out_none, range_if}
 use Rattle.disc.proofs.check.first_out.Goals as goal
 

@@ -1,4 +1,4 @@
-use Rattle.std.proofs.Common.{◌≡◌, sym, arith}
+use Rattle.std.proofs.Common.{sym, arith}
 use Rattle.disc.proofs.Verdicts.{too_long_at, too_long_none}
 use Rattle.disc.proofs.check.is_too_long.Goals as goal
 

@@ -1,4 +1,4 @@
-use Rattle.std.proofs.Common.{◌≡◌, map, vec_items, sym, refl, ap, ◌∙◌, arith}
+use Rattle.std.proofs.Common.{map, vec_items, arith}
 use Rattle.std.proofs.lemmas.List.{length-map}
 use Rattle.disc.specs.Format.{Short}
 use Rattle.disc.proofs.Images.{planned}

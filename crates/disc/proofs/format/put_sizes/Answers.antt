@@ -1,4 +1,4 @@
-use Rattle.std.proofs.Common.{◌≡◌, ◌∙◌, inr, arith}
+use Rattle.std.proofs.Common.{◌∙◌, inr, arith}
 use Rattle.disc.proofs.Images.{name_put, name_other, sizes_are, word_same}
 use Rattle.disc.proofs.format.put_sizes.Goals as goal
 

@@ -1,4 +1,4 @@
-use Rattle.std.proofs.Common.{◌≡◌, ℕ, ap, ◌∙◌, arith, length-drop, length-take}
+use Rattle.std.proofs.Common.{ap, ◌∙◌, arith, length-drop, length-take}
 use Rattle.disc.specs.Layout.{head_at}
 use Rattle.disc.proofs.Places.{header_bytes}
 use Rattle.disc.proofs.layout.header_of.Goals as goal

@@ -1,4 +1,4 @@
-use Rattle.std.proofs.Common.{◌≡◌, ◌<◌, ◌≢◌, length, arith, get_or-set_other, get_or-set_same, below_more}
+use Rattle.std.proofs.Common.{◌<◌, ◌≢◌, length, arith, get_or-set_other, get_or-set_same, below_more}
 use Rattle.disc.specs.Blocks.{blocks}
 use Rattle.disc.specs.Layout.{file_in}
 use Rattle.disc.proofs.Places.{file_length}

@@ -1,4 +1,4 @@
-use Rattle.std.proofs.Common.{◌≡◌, not, sym, ap, ◌∙◌, arith}
+use Rattle.std.proofs.Common.{sym, ◌∙◌, arith}
 use Rattle.octets.proofs.Lowest.{lowest_here, lowest_next, lowest_end}
 use Rattle.processes.proofs.Process.free_handle.Goals as goal
 

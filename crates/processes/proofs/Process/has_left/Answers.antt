@@ -1,4 +1,3 @@
-use Rattle.std.proofs.Common.{rules}
 use Rattle.turns.specs.World.{is_left}
 use Rattle.processes.proofs.Process.has_left.Goals as goal
 

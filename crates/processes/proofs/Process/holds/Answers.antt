@@ -1,4 +1,4 @@
-use Rattle.std.proofs.Common.{◌≡◌, sym, ◌∙◌}
+use Rattle.std.proofs.Common.{sym, ◌∙◌}
 use Rattle.octets.proofs.Lowest.{some_at, lowest_next}
 use Rattle.processes.proofs.Rows.{some_end}
 use Rattle.processes.proofs.Process.holds.Goals as goal

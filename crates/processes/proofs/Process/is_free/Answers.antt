@@ -1,4 +1,3 @@
-use Rattle.std.proofs.Common.{rules}
 use Rattle.turns.specs.World.{is_free}
 use Rattle.processes.proofs.Process.is_free.Goals as goal
 

@@ -1,4 +1,4 @@
-use Rattle.std.proofs.Common.{◌≡◌, sym, refl, ap, ◌∙◌}
+use Rattle.std.proofs.Common.{ap}
 use Rattle.turns.specs.World.{leads_to}
 use Rattle.processes.proofs.Process.leads_to.Goals as goal
 

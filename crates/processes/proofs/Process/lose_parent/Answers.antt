@@ -1,4 +1,3 @@
-use Rattle.std.proofs.Common.{sym}
 use Rattle.std.proofs.lemmas.Bool.{eq-eqb, ne_eqb}
 use Rattle.octets.proofs.Tests.{pick_true, pick_false}
 use Rattle.processes.proofs.Process.lose_parent.Goals as goal

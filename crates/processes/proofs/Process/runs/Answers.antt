@@ -1,4 +1,3 @@
-use Rattle.std.proofs.Common.{rules}
 use Rattle.turns.specs.World.{is_running}
 use Rattle.processes.proofs.Process.runs.Goals as goal
 

@@ -1,4 +1,4 @@
-use Rattle.std.proofs.Common.{◌≡◌, true, false, not, sym, refl, ap, ◌∙◌}
+use Rattle.std.proofs.Common.{refl}
 use Rattle.processes.proofs.Called.{down, answered, closes_none, closes_one, not_back}
 use Rattle.processes.proofs.Tables.close.Goals as goal
 

@@ -1,4 +1,4 @@
-use Rattle.std.proofs.Common.{◌≡◌, ℕ, true, false, not, Option, sym, refl, ap, ◌∙◌, subst}
+use Rattle.std.proofs.Common.{ℕ, Option, refl, subst}
 use Rattle.turns.specs.World.{with_handle}
 use Rattle.rv32.specs.Act.{core}
 use Rattle.processes.specs.Tabled.{Tabled}

@@ -1,4 +1,4 @@
-use Rattle.std.proofs.Common.{◌≡◌, refl, ◌∙◌, arith}
+use Rattle.std.proofs.Common.{arith}
 use Rattle.turns.specs.World.{free_open, second_open, free_handle, second_handle}
 use Rattle.processes.proofs.Called.{from_first}
 use Rattle.processes.proofs.Piped.{second_is, no_opens, no_handles, enough}

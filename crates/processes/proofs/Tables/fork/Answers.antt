@@ -1,4 +1,4 @@
-use Rattle.std.proofs.Common.{◌≡◌, refl, arith}
+use Rattle.std.proofs.Common.{refl, arith}
 use Rattle.processes.proofs.Called.{down, answered, forks_none, forks_one}
 use Rattle.processes.proofs.Tables.fork.Goals as goal
 

@@ -1,4 +1,4 @@
-use Rattle.std.proofs.Common.{◌≡◌, ◌+◌, ◌-◌, ◌≤◌, not, ◌&&◌, ◌||◌}
+use Rattle.std.proofs.Common.{◌≡◌, ◌+◌, ◌-◌, ◌≤◌, not}
 use Rattle.octets.specs.Rows.{lowest_from}
 use Rattle.turns.specs.World.{in_use}
 use Rattle.rv32.specs.Act.{core}

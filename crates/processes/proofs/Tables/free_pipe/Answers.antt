@@ -1,4 +1,4 @@
-use Rattle.std.proofs.Common.{◌≡◌, not, sym, ap, ◌∙◌, arith}
+use Rattle.std.proofs.Common.{not, sym, ap, ◌∙◌, arith}
 use Rattle.octets.proofs.Lowest.{lowest_here, lowest_next, lowest_end}
 use Rattle.turns.specs.World.{free_pipe}
 use Rattle.processes.proofs.Tables.free_pipe.Goals as goal

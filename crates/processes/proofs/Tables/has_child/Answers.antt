@@ -1,4 +1,4 @@
-use Rattle.std.proofs.Common.{◌≡◌, sym, refl, ◌∙◌}
+use Rattle.std.proofs.Common.{sym, refl, ◌∙◌}
 use Rattle.octets.proofs.Lowest.{lowest_next}
 use Rattle.processes.proofs.Rows.{found, not_found}
 use Rattle.processes.proofs.Tables.has_child.Goals as goal

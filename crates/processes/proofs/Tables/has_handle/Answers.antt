@@ -1,4 +1,4 @@
-use Rattle.std.proofs.Common.{◌≡◌, true, false, not, sym, refl, ap, ◌∙◌}
+use Rattle.std.proofs.Common.{not, sym, ap, ◌∙◌}
 use Rattle.std.proofs.lemmas.Bool.{both_ways, le-ltb}
 use Rattle.turns.specs.World.{is_none, handle_of}
 use Rattle.processes.proofs.Called.{past_none}

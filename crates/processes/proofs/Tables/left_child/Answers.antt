@@ -1,4 +1,4 @@
-use Rattle.std.proofs.Common.{◌≡◌, not, sym, refl, ap, ◌∙◌, arith}
+use Rattle.std.proofs.Common.{sym, refl, ◌∙◌, arith}
 use Rattle.octets.proofs.Lowest.{lowest_here, lowest_next, lowest_end}
 use Rattle.turns.specs.World.{left_child}
 use Rattle.processes.proofs.Tables.left_child.Goals as goal

@@ -1,4 +1,4 @@
-use Rattle.std.proofs.Common.{◌≡◌, sym, refl, ap, ◌∙◌}
+use Rattle.std.proofs.Common.{refl, ◌∙◌}
 use Rattle.turns.specs.World.{free_open, free_handle}
 use Rattle.processes.proofs.Called.{down, answered, from_first, opens_none, opens_full, opens_held, opens_one}
 use Rattle.processes.proofs.Tables.open.Goals as goal

@@ -1,4 +1,4 @@
-use Rattle.std.proofs.Common.{◌≡◌, ℕ, ◌<◌, ◌≤◌, ap, arith}
+use Rattle.std.proofs.Common.{◌≡◌, ℕ, ap, arith}
 use Rattle.processes.specs.declared.Process.{Process}
 use Rattle.processes.specs.Tabled.{place}
 use Rattle.processes.specs.Changes.{without_parent}

@@ -1,4 +1,4 @@
-use Rattle.std.proofs.Common.{◌≡◌, ◌∙◌, arith}
+use Rattle.std.proofs.Common.{◌∙◌, arith}
 use Rattle.processes.proofs.Piped.{tabled_piped}
 use Rattle.processes.proofs.Tables.put_pipe.Goals as goal
 

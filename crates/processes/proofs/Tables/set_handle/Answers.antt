@@ -1,4 +1,4 @@
-use Rattle.std.proofs.Common.{refl, ap, ◌∙◌, arith}
+use Rattle.std.proofs.Common.{refl, ◌∙◌, arith}
 use Rattle.std.proofs.lemmas.List.{length-set}
 use Rattle.processes.proofs.Changed.{sound_place, states_kept, tabled_handle}
 use Rattle.processes.proofs.Tables.set_handle.Goals as goal

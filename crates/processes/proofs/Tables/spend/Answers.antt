@@ -1,4 +1,4 @@
-use Rattle.std.proofs.Common.{◌≡◌, suc, ◌+◌, ◌<◌, ◌≤◌, sym, refl, ap, ◌∙◌, subst, arith}
+use Rattle.std.proofs.Common.{◌≡◌, suc, ◌+◌, refl, subst, arith}
 use Rattle.processes.specs.Tabled.{Tabled}
 use Rattle.processes.proofs.Changed.{sound_turn, tabled_turn, spends_on, spends_over}
 use Rattle.processes.proofs.Tables.spend.Goals as goal

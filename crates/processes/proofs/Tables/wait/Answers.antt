@@ -1,4 +1,4 @@
-use Rattle.std.proofs.Common.{◌≡◌, ℕ, suc, ◌+◌, ◌*◌, refl, ap, ◌∙◌, arith}
+use Rattle.std.proofs.Common.{◌≡◌, refl, ap, ◌∙◌, arith}
 use Rattle.turns.specs.World.{left_with, is_running, process}
 use Rattle.rv32.specs.Act.{core}
 use Rattle.processes.proofs.Called.{reaped_rests, down, waiting, answered, waits_alone, waits_on, waits_over}

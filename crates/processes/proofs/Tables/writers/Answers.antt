@@ -1,4 +1,4 @@
-use Rattle.std.proofs.Common.{◌≡◌, sym, refl, ◌∙◌}
+use Rattle.std.proofs.Common.{sym, ◌∙◌}
 use Rattle.octets.proofs.Lowest.{lowest_next}
 use Rattle.turns.specs.World.{writers, some_end}
 use Rattle.processes.proofs.Rows.{found, not_found}

@@ -1,4 +1,4 @@
-use Rattle.std.proofs.Common.{◌≡◌, ◌+◌, ◌-◌, ◌<◌, ◌≤◌, sym, arith}
+use Rattle.std.proofs.Common.{arith}
 use Rattle.processes.proofs.Seeing.{named_file, named_screen, named_nothing}
 use Rattle.processes.proofs.reading.end_named.Goals as goal
 

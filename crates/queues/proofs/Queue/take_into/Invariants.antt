@@ -1,4 +1,4 @@
-use Rattle.std.proofs.Common.{◌≡◌, ℕ, ◌-◌, ◌<◌, ◌≤◌, length, get_or, drop}
+use Rattle.std.proofs.Common.{◌≡◌, ℕ, ◌-◌, ◌<◌, ◌≤◌, get_or, drop}
 use Rattle.queues.specs.Rings.{Round, queued}
 use Rattle.queues.proofs.Queue.take_into.Given as goal
 
