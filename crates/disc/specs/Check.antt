@@ -1,5 +1,5 @@
 -- Which discs are taken, and where the others are refused. Assumes nothing: these are definitions.
-use Rattle.std.specs.Prelude.{◌≡◌, ℕ, ◌+◌, ◌*◌, ◌/◌, ◌%◌, ◌≤◌, Bool, true, cond, ◌&&◌, ◌||◌, ltb, List, [], ◌∷◌, length, Some, None, Option, ◌==◌, nat_le, nat_lt, slice_index}
+use Rattle.std.specs.Prelude.{◌≡◌, ℕ, ◌+◌, ◌*◌, ◌/◌, ◌%◌, ◌≤◌, Bool, true, cond, ◌&&◌, ◌||◌, List, [], ◌∷◌, length, Some, None, Option, ◌==◌, nat_le, nat_lt, slice_index}
 use Rattle.octets.specs.Rows.{lowest, some, Bytes}
 use Rattle.octets.specs.Words.{word_at}
 use Rattle.turns.specs.Ranges.{InRange}
@@ -84,7 +84,7 @@ first_out z = first_false (ranges z) 0
 
 -- FILES. A block of lengths in which one is above the size of a file
 unfoldable pub too_long : Plan → List ℕ → Bool
-too_long p b = some (λ f. ltb p.size (word_at b (4 * f))) p.files
+too_long p b = some (λ f. nat_lt p.size (word_at b (4 * f))) p.files
 
 -- a block that is not as the layout says: it is missing, or it is the block of lengths of the header that counts, and one of them is too long
 unfoldable pub wrong : Plan → Disc → ℕ → Bool

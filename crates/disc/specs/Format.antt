@@ -1,5 +1,5 @@
 -- Which files fit on a disc of some sizes, and why others do not. Assumes nothing: these are definitions.
-use Rattle.std.specs.Prelude.{◌≡◌, ℕ, ◌+◌, ◌*◌, ◌<◌, ◌≤◌, true, ◌≢◌, List, [], length, get_or, Some, slice_index, slice_index_or}
+use Rattle.std.specs.Prelude.{◌≡◌, ℕ, ◌+◌, ◌*◌, ◌<◌, ◌≤◌, true, ◌≢◌, List, [], length, Some, slice_index, slice_index_or}
 use Rattle.turns.specs.Ranges.{InRange, Fits}
 use Rattle.turns.specs.declared.vocabulary.Sizes.{Sizes}
 use Rattle.octets.specs.Words.{word_at}
@@ -41,7 +41,7 @@ pub record Laid (z : Sizes) (p : Plan) (fs : List (List ℕ)) (i : ℕ) (xs : Li
   pub size : length xs ≡ 512 * room p
   pub name : named xs ≡ true
   pub sizes : sizes_in xs ≡ z
-  pub root : get_or xs 512 0 ≡ 0
+  pub root : slice_index xs 512 ≡ 0
   pub bits : (k : ℕ) → 1536 ≤ k → k < 512 * (2 + p.head) → slice_index xs k ≡ 0
   pub lengths : (f : ℕ) → f < i → word_at xs (1024 + 4 * f) ≡ length (slice_index_or fs f [])
   pub held : (f : ℕ) → f < i → (k : ℕ) → k < length (slice_index_or fs f []) → slice_index xs (512 * (data_at p + f * p.each) + k) ≡ slice_index (slice_index_or fs f []) k

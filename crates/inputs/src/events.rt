@@ -68,6 +68,7 @@ pub fn refused(events: &[u8]) -> Option<usize>
     ensures place { result ≡ refusal_of events.now }
     ensures whole { result ≡ None → WrittenOut events.now }
 {
+    let most = MOST_TICKS;
     let mut i = 0;
     let mut total: u64 = 0;
     while i < events.len() {
@@ -76,7 +77,7 @@ pub fn refused(events: &[u8]) -> Option<usize>
         }
         let n = ticks_of(events, i);
         total += n as u64;
-        if total > MOST_TICKS {
+        if total > most {
             return Some(i);
         }
         i = after_input(events, i);

@@ -179,7 +179,7 @@ pub fn read_script(heap: Global, text: &[u8]) -> Result<Vec<u8>, ScriptError>
     ensures { ScriptRead text.now result }
 {
     let mut out = Vec::new(heap);
-    let mut line = 1;
+    let mut line: usize = 1;
     let mut i = 0;
     while i < text.len() {
         let end = find(text, i, text.len(), Seek::LineEnd);

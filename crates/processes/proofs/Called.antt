@@ -12,7 +12,7 @@ use Rattle.turns.specs.declared.vocabulary.State.TheVariants.{Free, Runs, Left}
 use Rattle.turns.specs.declared.vocabulary.Sizes.{Sizes}
 use Rattle.rv32.specs.declared.cpu.Cpu.{Cpu}
 use Rattle.rv32.specs.Act.{core}
-use Rattle.processes.specs.Tabled.{Worlds, Tabled, Came, Runs_at, place}
+use Rattle.processes.specs.Tabled.{Worlds, Tabled, Came, RunsAt, place}
 use Rattle.processes.specs.Changes.{child}
 use Rattle.processes.specs.declared.Tables.{Tables}
 
@@ -73,7 +73,7 @@ reaped_rests t i q l =
 -- HANDLES
 
 -- no handle of a running process is past the last
-pub past_none : (t : Tables) (w : Worlds) (p h : ℕ) → Tabled t w → Runs_at t p → t.sizes.handles ≤ h → is_none (handle_of core w p h) ≡ true
+pub past_none : (t : Tables) (w : Worlds) (p h : ℕ) → Tabled t w → RunsAt t p → t.sizes.handles ≤ h → is_none (handle_of core w p h) ≡ true
 unfolding is_none handle_of
 past_none t w p h e r l = ap is_none (get_d_past (process core w p).handles h None (omega (arith, (e.each p).count r.1)))
 

@@ -15,7 +15,7 @@ use Rattle.rv32.specs.Act.{core}
 use Rattle.rv32.specs.Execute.{answered, fresh}
 use Rattle.processes.specs.declared.Process.{Process}
 use Rattle.processes.specs.declared.Tables.{Tables}
-use Rattle.processes.specs.Tabled.{Sound, Tabled, Same, Worlds, Runs_at, place, thing, blank, shut}
+use Rattle.processes.specs.Tabled.{Sound, Tabled, Same, Worlds, RunsAt, place, thing, blank, shut}
 use Rattle.processes.specs.Changes.{with_place, with_thing, with_turn, with_cpu, with_handles, without_parent, child, begun, StatesSet}
 use Rattle.processes.proofs.Rows.{get_d_past}
 
@@ -43,7 +43,7 @@ states_set t p q x l e r =
     (λ n. ap (λ (y : Process). y.state) (get_or-set_other t.processes p r q blank n) ∙ sym (pick_false _ _ _ (ne_eqb r p n)))
     (cases_eq r p)
 
-pub runs_kept : (t u : Tables) (p : ℕ) → u.sizes ≡ t.sizes → ((q : ℕ) → (place u q).state ≡ (place t q).state) → Runs_at t p → Runs_at u p
+pub runs_kept : (t u : Tables) (p : ℕ) → u.sizes ≡ t.sizes → ((q : ℕ) → (place u q).state ≡ (place t q).state) → RunsAt t p → RunsAt u p
 runs_kept t u p z f r = (subst (λ (y : Sizes). p < y.processes) (sym z) r.0, ap is_running (f p) ∙ r.1)
 
 -- one place changes in the tables, and in the world
@@ -72,7 +72,7 @@ tabled_cpu t w p c d s h l e =
     tabled_place t w p _ _ s h l
     (record { state = (h.each p).state; parent = (h.each p).parent; cpu = e; handles = (h.each p).handles; count = (h.each p).count })
 
-pub tabled_handle : (t : Tables) (w : Worlds) (p i : ℕ) (o : Option ℕ) → Sound t → Tabled t w → Runs_at t p → i < t.sizes.handles →
+pub tabled_handle : (t : Tables) (w : Worlds) (p i : ℕ) (o : Option ℕ) → Sound t → Tabled t w → RunsAt t p → i < t.sizes.handles →
     Tabled (with_place t p (with_handles (place t p) (set (place t p).handles i o))) (with_handle core w p i o)
 unfolding W.with_handle W.with_handles
 tabled_handle t w p i o s h r l =
@@ -109,7 +109,7 @@ running Free e = absurd (both_ways false refl e)
 running Runs e = refl
 running (Left n) e = absurd (both_ways false refl e)
 
-pub tabled_child : (t : Tables) (w : Worlds) (p q : ℕ) (c : Cpu) → Sound t → Tabled t w → Runs_at t p → q < t.sizes.processes → c ≡ answered (place t p).cpu 0 →
+pub tabled_child : (t : Tables) (w : Worlds) (p q : ℕ) (c : Cpu) → Sound t → Tabled t w → RunsAt t p → q < t.sizes.processes → c ≡ answered (place t p).cpu 0 →
     Tabled (with_place t q (record { state = Runs; parent = p; cpu = c; handles = (place t p).handles })) (with_process w q (child w p))
 tabled_child t w p q c s h r l e =
     tabled_place t w q _ _ s h l
@@ -121,7 +121,7 @@ tabled_child t w p q c s h r l e =
       count = λ _. (h.each p).count r.1;
     })
 
-pub tabled_begun : (t : Tables) (w : Worlds) (p : ℕ) (c : Cpu) (m : List ℕ) → Sound t → Tabled t w → Runs_at t p → c ≡ fresh t.sizes.memory →
+pub tabled_begun : (t : Tables) (w : Worlds) (p : ℕ) (c : Cpu) (m : List ℕ) → Sound t → Tabled t w → RunsAt t p → c ≡ fresh t.sizes.memory →
     Tabled (with_place t p (with_cpu (place t p) c)) (with_process w p (begun t.sizes.memory m (process core w p)))
 tabled_begun t w p c m s h r e =
     tabled_place t w p _ _ s h r.0

@@ -3,7 +3,7 @@ use Rattle.std.specs.Prelude.{◌≡◌, ℕ, true, List, Some, None, slice_inde
 use Rattle.turns.specs.World.{process, in_use, with_process, with_memory, with_pipe, with_file, with_keys, with_shown}
 use Rattle.rv32.specs.Act.{core}
 use Rattle.processes.specs.declared.Tables.{Tables}
-use Rattle.processes.specs.Tabled.{Tabled, Worlds, Runs_at, place}
+use Rattle.processes.specs.Tabled.{Tabled, Worlds, RunsAt, place}
 
 -- whatever the memory of a process holds
 abbrev pub BlindToMemory : Type 0
@@ -17,4 +17,4 @@ BlindToOthers =
 
 -- what a handle of a running process leads to is in use
 abbrev pub HandlesLead : Type 0
-HandlesLead = (t : Tables) (w : Worlds) (p h k : ℕ) → Tabled t w → Runs_at t p → slice_index_or (place t p).handles h None ≡ Some k → in_use core w k ≡ true
+HandlesLead = (t : Tables) (w : Worlds) (p h k : ℕ) → Tabled t w → RunsAt t p → slice_index_or (place t p).handles h None ≡ Some k → in_use core w k ≡ true

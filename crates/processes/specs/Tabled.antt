@@ -59,8 +59,8 @@ pub record Tabled (t : Tables) (w : Worlds) : Type 0 where
   pub used : t.used ≡ w.used
 
 -- somebody runs in place p
-abbrev pub Runs_at : Tables → ℕ → Type 0
-Runs_at t p = (p < t.sizes.processes) × (is_running (place t p).state ≡ true)
+abbrev pub RunsAt : Tables → ℕ → Type 0
+RunsAt t p = (p < t.sizes.processes) × (is_running (place t p).state ≡ true)
 
 -- a call has left these tables and this outcome
 pub record Came (t : Tables) (o : Outcome) (d : Done Cpu) : Type 0 where

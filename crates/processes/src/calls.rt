@@ -2,7 +2,7 @@
 ghost use Rattle.std.specs.Prelude.{◌≡◌, ℕ, ◌<◌, length};
 ghost use Rattle.turns.specs.World.{forks, waits, closes, copies, opens, left_with, is_nothing, is_running};
 ghost use Rattle.rv32.specs.Act.{core};
-ghost use Rattle.processes.specs.Tabled.{Sound, Tabled, Worlds, Runs_at, Came, place};
+ghost use Rattle.processes.specs.Tabled.{Sound, Tabled, Worlds, RunsAt, Came, place};
 
 use crate::reading::end_named;
 use crate::{Process, Tables};
@@ -28,7 +28,7 @@ impl Tables {
     // Fork: the lowest free place gets a child of `p`, which runs; the answer is its place + 1. Its memory is the caller's to copy.
     pub fn fork(&mut self, p: usize) -> Outcome
         requires sound { Sound self.old }
-        requires runs { Runs_at self.old p }
+        requires runs { RunsAt self.old p }
         ensures sound { Sound self.new }
         ensures sizes { self.new.sizes ≡ self.old.sizes }
         ensures done { (w : Worlds) → Tabled self.old w → Came self.new result (forks core self.old.sizes w p) }
@@ -64,7 +64,7 @@ impl Tables {
     // Close: handle `h` of `p`, which runs, is free.
     pub fn close(&mut self, p: usize, h: u32) -> Outcome
         requires sound { Sound self.old }
-        requires runs { Runs_at self.old p }
+        requires runs { RunsAt self.old p }
         ensures sound { Sound self.new }
         ensures sizes { self.new.sizes ≡ self.old.sizes }
         ensures states { (q : ℕ) → (place self.new q).state ≡ (place self.old q).state }
@@ -81,7 +81,7 @@ impl Tables {
     // Copy: handle `g` of `p`, which runs, is what `h` is, from now on.
     pub fn copy(&mut self, p: usize, h: u32, g: u32) -> Outcome
         requires sound { Sound self.old }
-        requires runs { Runs_at self.old p }
+        requires runs { RunsAt self.old p }
         ensures sound { Sound self.new }
         ensures sizes { self.new.sizes ≡ self.old.sizes }
         ensures states { (q : ℕ) → (place self.new q).state ≡ (place self.old q).state }
@@ -101,7 +101,7 @@ impl Tables {
     // Open: the lowest free handle of `p`, which runs, leads to the lowest free open thing, for the file or the screen of this name, from its beginning.
     pub fn open(&mut self, p: usize, name: u32) -> Outcome
         requires sound { Sound self.old }
-        requires runs { Runs_at self.old p }
+        requires runs { RunsAt self.old p }
         ensures sound { Sound self.new }
         ensures sizes { self.new.sizes ≡ self.old.sizes }
         ensures states { (q : ℕ) → (place self.new q).state ≡ (place self.old q).state }

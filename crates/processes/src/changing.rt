@@ -3,7 +3,7 @@ ghost use Rattle.std.specs.Prelude.{◌≡◌, ℕ, ◌+◌, ◌<◌};
 ghost use Rattle.turns.specs.World.{process, with_process, with_cpu, with_handle, with_open, moved};
 ghost use Rattle.rv32.specs.Act.{core};
 ghost use Rattle.rv32.specs.Execute.{answered};
-ghost use Rattle.processes.specs.Tabled.{Sound, Tabled, Worlds, Runs_at, place, thing};
+ghost use Rattle.processes.specs.Tabled.{Sound, Tabled, Worlds, RunsAt, place, thing};
 
 use crate::Tables;
 use rv32::Cpu;
@@ -25,7 +25,7 @@ impl Tables {
     // Process `p`, which runs, goes on with the answer of its call.
     pub fn answer(&mut self, p: usize, value: u32)
         requires sound { Sound self.old }
-        requires runs { Runs_at self.old p }
+        requires runs { RunsAt self.old p }
         ensures sound { Sound self.new }
         ensures sizes { self.new.sizes ≡ self.old.sizes }
         ensures states { (q : ℕ) → (place self.new q).state ≡ (place self.old q).state }
@@ -37,7 +37,7 @@ impl Tables {
     // Handle `h` of process `p`, which runs, leads to this from now on.
     pub(crate) fn set_handle(&mut self, p: usize, h: usize, to: Option<u8>)
         requires sound { Sound self.old }
-        requires runs { Runs_at self.old p }
+        requires runs { RunsAt self.old p }
         requires there { h < self.old.sizes.handles }
         ensures sound { Sound self.new }
         ensures sizes { self.new.sizes ≡ self.old.sizes }

@@ -3,7 +3,7 @@ ghost use Rattle.std.specs.Prelude.{◌≡◌, ℕ, ◌%◌, ◌<◌, List};
 ghost use Rattle.turns.specs.World.{process, nobody, with_process, orphaned, leaves};
 ghost use Rattle.turns.specs.declared.vocabulary.State.TheVariants.{Free, Runs, Left};
 ghost use Rattle.rv32.specs.Act.{core};
-ghost use Rattle.processes.specs.Tabled.{Sound, Tabled, Worlds, Runs_at, place};
+ghost use Rattle.processes.specs.Tabled.{Sound, Tabled, Worlds, RunsAt, place};
 ghost use Rattle.processes.specs.Changes.{without_parent, away, child, begun, StatesSet};
 
 use crate::{Process, Tables};
@@ -61,7 +61,7 @@ impl Tables {
     // In place `q` begins a child of `p`, which runs: it is what the parent is, and goes on with 0.
     pub fn begin_child(&mut self, p: usize, q: usize)
         requires sound { Sound self.old }
-        requires runs { Runs_at self.old p }
+        requires runs { RunsAt self.old p }
         requires there { q < self.old.sizes.processes }
         ensures sound { Sound self.new }
         ensures sizes { self.new.sizes ≡ self.old.sizes }
@@ -78,7 +78,7 @@ impl Tables {
     // Process `p`, which runs, begins another program, in a memory with the program in it; handles are kept.
     pub fn begin_program(&mut self, p: usize)
         requires sound { Sound self.old }
-        requires runs { Runs_at self.old p }
+        requires runs { RunsAt self.old p }
         ensures sound { Sound self.new }
         ensures sizes { self.new.sizes ≡ self.old.sizes }
         ensures states { (q : ℕ) → (place self.new q).state ≡ (place self.old q).state }

@@ -1,6 +1,6 @@
 // The ends of a new pipe.
 ghost use Rattle.std.specs.Prelude.{◌≡◌, ℕ, ◌<◌, List};
-ghost use Rattle.processes.specs.Tabled.{Sound, Tabled, Worlds, Runs_at, place};
+ghost use Rattle.processes.specs.Tabled.{Sound, Tabled, Worlds, RunsAt, place};
 ghost use Rattle.processes.specs.Pipes.{Found, piped};
 
 use crate::{PipeEnds, Tables};
@@ -39,7 +39,7 @@ impl Tables {
     // The ends of a new pipe are put into the tables, for `p`, which runs. The pipe's bytes, and the handles' numbers in memory, are the caller's to put.
     pub fn put_pipe(&mut self, p: usize, ends: PipeEnds)
         requires sound { Sound self.old }
-        requires runs { Runs_at self.old p }
+        requires runs { RunsAt self.old p }
         requires opens { (ends.read_open < self.old.sizes.opens) × (ends.write_open < self.old.sizes.opens) }
         requires handles { (ends.read_handle < self.old.sizes.handles) × (ends.write_handle < self.old.sizes.handles) }
         ensures sound { Sound self.new }

@@ -3,7 +3,7 @@ ghost use Rattle.std.specs.Prelude.{◌≡◌, ℕ, ◌+◌, ◌-◌, ◌<◌, �
 ghost use Rattle.octets.specs.Rows.{lowest_from};
 ghost use Rattle.turns.specs.World.{handle_of, end_behind, end_of, opened, is_none, process, named};
 ghost use Rattle.rv32.specs.Act.{core};
-ghost use Rattle.processes.specs.Tabled.{Sound, Tabled, Worlds, Runs_at, thing};
+ghost use Rattle.processes.specs.Tabled.{Sound, Tabled, Worlds, RunsAt, thing};
 
 use crate::Tables;
 use turns::vocabulary::{End, OpenThing, Sizes};
@@ -21,7 +21,7 @@ impl Tables {
     // Whether handle `h` of process `p`, which runs, leads to an open thing.
     pub(crate) fn has_handle(&self, p: usize, h: usize) -> bool
         requires sound { Sound self.now }
-        requires runs { Runs_at self.now p }
+        requires runs { RunsAt self.now p }
         ensures leads { (w : Worlds) → Tabled self.now w → result ≡ not (is_none (handle_of core w p h)) }
         ensures within { result ≡ true → h < self.now.sizes.handles }
     {

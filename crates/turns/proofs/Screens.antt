@@ -16,10 +16,10 @@ pub data Showed {Cpu : Type 0} (w : World Cpu) : List (List ℕ) → Type 0 wher
   more : (t : ℕ) (bs : List ℕ) → Showed w (set w.shown t (shown_on w t ++ bs))
 
 -- one row goes on as another
-abbrev Goes_on : List ℕ → List ℕ → Type 0
-Goes_on xs ys = (bs : List ℕ) × (ys ≡ xs ++ bs)
+abbrev GoesOn : List ℕ → List ℕ → Type 0
+GoesOn xs ys = (bs : List ℕ) × (ys ≡ xs ++ bs)
 
-goes_further : (xs ys us : List ℕ) → Goes_on xs ys → Goes_on ys us → Goes_on xs us
+goes_further : (xs ys us : List ℕ) → GoesOn xs ys → GoesOn ys us → GoesOn xs us
 goes_further xs ys us a b = (a.0 ++ b.0, b.1 ∙ ap (λ l. l ++ b.0) a.1 ∙ append_assoc xs a.0 b.0)
 
 module _ {Cpu : Type 0} (core : Core Cpu) where
@@ -44,10 +44,10 @@ module _ {Cpu : Type 0} (core : Core Cpu) where
   unfolding with_turn with_keys
   showed z w e = event_by core (λ v. Showed w v.shown) z w same (λ _ _. ways z w w.turn) (λ v t u h. h) (λ t b _ _. same) e
 
-  goes_step : (w : World Cpu) (ss : List (List ℕ)) (t : ℕ) → Showed w ss → Goes_on (shown_on w t) (get_or ss t [])
+  goes_step : (w : World Cpu) (ss : List (List ℕ)) (t : ℕ) → Showed w ss → GoesOn (shown_on w t) (get_or ss t [])
   goes_step w _ t same = ([], sym (append-nil _))
-  goes_step w _ t (more u bs) = get_or_set_by (Goes_on (shown_on w t)) w.shown u t _ [] (λ e. rw e (bs, refl)) ([], sym (append-nil _))
+  goes_step w _ t (more u bs) = get_or_set_by (GoesOn (shown_on w t)) w.shown u t _ [] (λ e. rw e (bs, refl)) ([], sym (append-nil _))
 
 pub stays_shown : (Cpu : Type 0) → StaysShown Cpu
 stays_shown Cpu core z w t es =
-    run_by core (λ v. Goes_on (shown_on w t) (shown_on v t)) z (λ v e h. goes_further _ _ _ h (goes_step core v _ t (showed core z v e))) w es ([], sym (append-nil _))
+    run_by core (λ v. GoesOn (shown_on w t) (shown_on v t)) z (λ v e h. goes_further _ _ _ h (goes_step core v _ t (showed core z v e))) w es ([], sym (append-nil _))

@@ -7,8 +7,8 @@ returns-then-is_broken c =
     let e = sym (refused_broken _ _ c.loop-i.total c.loop-i-test.true (sym c.if-is_broken.ensures)) ∙ c.loop-i.invariant.0 in
     record { place = e; whole = written_out _ _ (λ k. omega (arith, c.type_inv.events k)) e }
 
-pub returns-then-total-gt-MOST_TICKS : goal.returns-then-total-gt-MOST_TICKS
-returns-then-total-gt-MOST_TICKS c =
+pub returns-then-total-most : goal.returns-then-total-most
+returns-then-total-most c =
     let e = sym (refused_many _ _ c.loop-i.total c.loop-i-test.true (omega (arith, c.ticks_of-n.ensures.value))) ∙ c.loop-i.invariant.0 in
     record { place = e; whole = written_out _ _ (λ k. omega (arith, c.type_inv.events k)) e }
 
