@@ -17,7 +17,7 @@ use Rattle.processes.specs.declared.Process.{Process}
 use Rattle.processes.specs.declared.Tables.{Tables}
 use Rattle.processes.specs.Tabled.{Sound, Tabled, Same, Worlds, RunsAt, place, thing, blank, shut}
 use Rattle.processes.specs.Changes.{with_place, with_thing, with_turn, with_cpu, with_handles, without_parent, child, begun, StatesSet}
-use Rattle.processes.proofs.Rows.{get_d_past}
+use Rattle.processes.proofs.Rows.{get_or_past}
 
 -- PLACES
 
@@ -157,7 +157,7 @@ pub lost_all : (t u : Tables) (p : ℕ) → Sound t → ((q : ℕ) → q < 64 �
 lost_all t u p s f g q =
     ⊎_elim (f q)
     (λ l.
-    let e : place t q ≡ blank = get_d_past t.processes q blank (omega (arith, s.places)) in
+    let e : place t q ≡ blank = get_or_past t.processes q blank (omega (arith, s.places)) in
     g q l ∙ e ∙ ap (λ n. record { state = Free; parent = n; cpu = blank.cpu; handles = [] }) (sym (pick_same (eqb 0 p) 0)) ∙ ap (without_parent p) (sym e))
     (cases_lt q 64)
 

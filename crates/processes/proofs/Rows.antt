@@ -4,10 +4,10 @@ use Rattle.octets.specs.Rows.{lowest_from, lowest, some}
 use Rattle.octets.proofs.Lowest.{lowest_end, some_at}
 use Rattle.std.proofs.lemmas.Bool.{le-ltb}
 
-pub get_d_past : {A : Type 0} (xs : List A) (k : ℕ) (d : A) → length xs ≤ k → get_or xs k d ≡ d
-get_d_past [] k d h = refl
-get_d_past (x ∷ xs) zero d h = absurd (omega arith)
-get_d_past (x ∷ xs) (suc k) d h = get_d_past xs k d (omega arith)
+pub get_or_past : {A : Type 0} (xs : List A) (k : ℕ) (d : A) → length xs ≤ k → get_or xs k d ≡ d
+get_or_past [] k d h = refl
+get_or_past (x ∷ xs) zero d h = absurd (omega arith)
+get_or_past (x ∷ xs) (suc k) d h = get_or_past xs k d (omega arith)
 
 -- tests that agree find the same place
 pub lowest_same : (f g : ℕ → Bool) (i n : ℕ) → ((k : ℕ) → f k ≡ g k) → lowest_from f i n ≡ lowest_from g i n
