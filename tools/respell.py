@@ -14,13 +14,16 @@ from pathlib import Path
 
 OLD_CRATE, NEW_CRATE = "bytes", "octets"
 TOKEN = re.compile(r"[A-Za-z_][A-Za-z0-9_'′⊎ℕ]*(?:-[A-Za-z0-9_'′⊎ℕ]+)*")
-# What would fall together with a word of the library or of a neighbour gets a name by hand.
+# What would be taken for a word of the library gets a name by hand.
 BY_HAND = {"On-ok": "OnDraft"}
-BY_HAND_IN = {}
 # Words that the check makes names of, and functions of the library that the source calls.
 MADE = ["in_ok", "in_err", "in_default", "type_inv", "slice_bounds", "offset_bounds", "invariant_of", "yielded_by"]
 MADE += [f"overflow_{op}" for op in ("add", "sub", "mul", "shl", "shr", "cast", "step", "neg")] + ["nonzero_div", "nonzero_rem"]
 OF_STD = ["to_le_bytes", "from_le_bytes", "copy_from_slice", "is_some", "is_none", "is_empty", "as_str", "as_slice", "as_bytes", "with_capacity", "from_residual"]
+
+
+def is_old(name):
+    return any(sign in name for sign in ("-", "′", "getD", "putMid"))
 
 
 def spelled(name):
@@ -79,14 +82,8 @@ def imports(text):
     return found
 
 
-_crates = None
-
-
 def crates():
-    global _crates
-    if _crates is None:
-        _crates = [p.name for p in Path("crates").iterdir()]
-    return _crates
+    return [p.name for p in Path("crates").iterdir()]
 
 
 def source_names():
@@ -117,58 +114,34 @@ def made_name(name, sources):
     return "-".join(out)
 
 
+def goal_names(text):
+    """The names of goals and of arms that a proof file answers or goes by."""
+    found = set(re.findall(r"^\s*(?:abbrev )?(?:pub )?([^\s:]+) : (?:goal|given)\.", text, re.M))
+    for names in re.findall(r"^use Rattle\.[\w.+]*\.(?:Goals|Given)\.\{([^}]*)\}", text, re.M):
+        found.update(part for n in names.split(",") for part in n.strip().split("+"))
+    return found
+
+
+def turned_name(name, before, made, foreign, ours, sources):
+    """A name of a specs/ or proofs/ file in its new spelling, by what stands before it."""
+    if not is_old(name):
+        return name
+    if name in made or re.search(r"(?:goal|given)\.$", before) or (before.endswith(".") and name not in ours):
+        return made_name(name, sources)
+    if name in foreign and name not in BY_HAND:
+        return name
+    return spelled(name) if name in ours else name
+
+
 def turn_antt(path, ours, sources):
     text = path.read_text()
-    foreign = imports(text)
-    goals = {m for m in re.findall(r"^\s*(?:abbrev )?(?:pub )?([^\s:]+) : (?:goal|given)\.", text, re.M)}
-    arms = set()
-    for names in re.findall(r"^use Rattle\.[\w.+]*\.(?:Goals|Given)\.\{([^}]*)\}", text, re.M):
-        arms.update(part for n in names.split(",") for part in n.strip().split("+"))
-
-    def token(match):
-        name, before = match.group(0), text[match.start() - 1 : match.start()]
-        if "-" not in name and "′" not in name and "getD" not in name and "putMid" not in name:
-            return name
-        if name in goals or name in arms or before == "·":
-            return made_name(name, sources)
-        if before == "." and name not in ours:
-            return made_name(name, sources)
-        if before == "." and re.search(r"(?:goal|given)\.$", text[: match.start()]):
-            return made_name(name, sources)
-        if name in foreign and name not in BY_HAND:
-            return name
-        if name in ours:
-            return BY_HAND_IN.get((str(path), name), spelled(name))
-        return made_name(name, sources) if before == "." else name
-
-    lines = []
-    pos = 0
+    made, foreign = goal_names(text), imports(text)
+    out = []
     for line in text.split("\n"):
         code = without_comment(line)
-        text_before = text
-        lines.append((code, line[len(code) :]))
-    out = []
-    offset = 0
-    for code, comment in lines:
-        start = offset
-        out.append(TOKEN.sub(lambda m: _shifted(token, m, start, text), code) + turned_comment(comment, ours))
-        offset += len(code) + len(comment) + 1
+        turned = TOKEN.sub(lambda m: turned_name(m.group(0), code[: m.start()], made, foreign, ours, sources), code)
+        out.append(turned + turned_comment(line[len(code) :], ours))
     path.write_text("\n".join(out))
-
-
-class _Match:
-    def __init__(self, m, start):
-        self._m, self._start = m, start
-
-    def group(self, i):
-        return self._m.group(i)
-
-    def start(self):
-        return self._m.start() + self._start
-
-
-def _shifted(token, m, start, text):
-    return token(_Match(m, start))
 
 
 def turned_comment(comment, ours):
@@ -206,8 +179,7 @@ def rename_crate():
 
 
 def report_falls(by_file):
-    """Names of ours that fall together in one file once they are respelled."""
-    bad = 0
+    """Tells the names of ours that fall together in one file once they are respelled."""
     for path, names in sorted(by_file.items()):
         met = defaultdict(set)
         for name in names:
@@ -215,8 +187,6 @@ def report_falls(by_file):
         for new, olds in met.items():
             if len(olds) > 1:
                 print(f"{path}: fall together as {new}: {' '.join(sorted(olds))}")
-                bad += 1
-    return bad
 
 
 def main():
@@ -224,10 +194,7 @@ def main():
         sys.exit("respell: run it at the top of the repository")
     by_file = {p: declared(p) for p in antt_files()}
     everything = set().union(*by_file.values())
-    ours = {n for n in everything if "-" in n or "′" in n or "getD" in n or "putMid" in n}
-    if "--list" in sys.argv:
-        print("\n".join(sorted(ours)))
-        return
+    ours = {n for n in everything if is_old(n)}
     report_falls(by_file)
     sources = source_names()
     for path in antt_files():
