@@ -1,7 +1,6 @@
 pub mod Events
 pub mod Texts
 pub mod Lines
-pub mod Names
 pub mod Lists
 pub mod Scripts
 pub mod Refusals

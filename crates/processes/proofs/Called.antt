@@ -1,10 +1,11 @@
 -- What the calls of the tables come to. Assumes nothing.
+use Rattle.std.specs.Prelude.{is_none}
 use Rattle.std.proofs.Common.{◌≡◌, ℕ, suc, ◌+◌, ◌-◌, ◌*◌, ◌<◌, ◌≤◌, Bool, true, false, not, ◌||◌, eqb, Some, None, sym, refl, ap, ◌∙◌, subst, arith}
 use Rattle.std.proofs.lemmas.Bool.{both_ways, eqb-true, lt-ltb, le-ltb, lt-leb, le-leb}
 use Rattle.processes.proofs.Rows.{get_or_past}
 use Rattle.octets.specs.Rows.{pick, some, lowest, lowest_from}
 use Rattle.octets.proofs.Tests.{pick_true, pick_false, pick_both}
-use Rattle.turns.specs.World.{is_left, is_running, Done, process, nobody, with_process, waits, left_child, left_with, is_child, turned_down, answers, stays, no, is_none, handle_of, with_handle, closes, copies, opens, forks, free_process, named, is_nothing, free_open, free_handle, with_open}
+use Rattle.turns.specs.World.{is_left, is_running, Done, process, nobody, with_process, waits, left_child, left_with, is_child, turned_down, answers, stays, no, handle_of, with_handle, closes, copies, opens, forks, free_process, named, is_nothing, free_open, free_handle, with_open}
 use Rattle.turns.specs.declared.vocabulary.End.{End}
 use Rattle.turns.specs.declared.vocabulary.Outcome.TheVariants.{Answer, Stays}
 use Rattle.turns.specs.declared.vocabulary.State.{State}
@@ -74,7 +75,7 @@ reaped_rests t i q l =
 
 -- no handle of a running process is past the last
 pub past_none : (t : Tables) (w : Worlds) (p h : ℕ) → Tabled t w → RunsAt t p → t.sizes.handles ≤ h → is_none (handle_of core w p h) ≡ true
-unfolding is_none handle_of
+unfolding  handle_of
 past_none t w p h e r l = ap is_none (get_or_past (process core w p).handles h None (omega (arith, (e.each p).count r.1)))
 
 module _ (w : Worlds) (p h : ℕ) where

@@ -1,7 +1,7 @@
 // One process by itself: its state and its handles.
-ghost use Rattle.std.specs.Prelude.{◌≡◌, ℕ, ◌+◌, ◌-◌, ◌<◌, ◌≤◌, length, None, slice_index_or, slice_set};
+ghost use Rattle.std.specs.Prelude.{◌≡◌, ℕ, ◌+◌, ◌-◌, ◌<◌, ◌≤◌, length, None, slice_index_or, slice_set, is_none};
 ghost use Rattle.octets.specs.Rows.{some, lowest_from};
-ghost use Rattle.turns.specs.World.{is_free, is_running, is_left, is_none, leads_to};
+ghost use Rattle.turns.specs.World.{is_free, is_running, is_left, leads_to};
 ghost use Rattle.processes.specs.Changes.{with_handles};
 
 use crate::Process;

@@ -1,7 +1,7 @@
 // What handles lead to, and what names stand for.
-ghost use Rattle.std.specs.Prelude.{◌≡◌, ℕ, ◌+◌, ◌-◌, ◌<◌, ◌≤◌, true, not, length, None, slice_index_or};
+ghost use Rattle.std.specs.Prelude.{◌≡◌, ℕ, ◌+◌, ◌-◌, ◌<◌, ◌≤◌, true, not, length, None, slice_index_or, is_none};
 ghost use Rattle.octets.specs.Rows.{lowest_from};
-ghost use Rattle.turns.specs.World.{handle_of, end_behind, end_of, opened, is_none, process, named};
+ghost use Rattle.turns.specs.World.{handle_of, end_behind, end_of, opened, process, named};
 ghost use Rattle.rv32.specs.Act.{core};
 ghost use Rattle.processes.specs.Tabled.{Sound, Tabled, Worlds, RunsAt, thing};
 

@@ -1,6 +1,6 @@
 -- The world: what programs that take turns see of a machine. Memory of their own, files, pipes, screens and each other; no frames, tables, blocks or caches.
 -- It is what is drawn on the blackboard. Assumes nothing: these are definitions.
-use Rattle.std.specs.Prelude.{ℕ, zero, suc, ◌+◌, ◌-◌, ◌*◌, ◌%◌, Bool, true, false, not, ◌&&◌, ◌||◌, List, [], ◌∷◌, ◌++◌, map, length, take, drop, replicate, Some, None, Option, ◌==◌, nat_le, nat_lt, slice_index_or, slice_set}
+use Rattle.std.specs.Prelude.{ℕ, zero, suc, ◌+◌, ◌-◌, ◌*◌, ◌%◌, Bool, true, false, not, ◌&&◌, ◌||◌, List, [], ◌∷◌, ◌++◌, map, length, take, drop, replicate, is_none, Some, None, Option, ◌==◌, nat_le, nat_lt, slice_index_or, slice_set}
 use Rattle.octets.specs.Rows.{pick, over, lowest, lowest_from, some}
 use Rattle.turns.specs.Core.{Core, Act, quiet, store, asks, wrong}
 use Rattle.turns.specs.declared.vocabulary.Sizes.{Sizes}
@@ -86,10 +86,6 @@ is_read_end j (Screen t) = false
 is_read_end j (File f) = false
 is_read_end j (WriteEnd i) = false
 is_read_end j (ReadEnd i) = i == j
-
-unfoldable pub is_none : Option ℕ → Bool
-is_none None = true
-is_none (Some k) = false
 
 -- a handle leads to the open thing k
 unfoldable pub leads_to : ℕ → Option ℕ → Bool

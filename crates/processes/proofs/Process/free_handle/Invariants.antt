@@ -1,6 +1,6 @@
+use Rattle.std.specs.Prelude.{is_none}
 use Rattle.std.proofs.Common.{◌≡◌, ◌+◌, ◌-◌, ◌≤◌, get_or, None}
 use Rattle.octets.specs.Rows.{lowest_from}
-use Rattle.turns.specs.World.{is_none}
 use Rattle.processes.proofs.Process.free_handle.Given as goal
 
 abbrev pub invariant-loop-h : goal.invariant-loop-h

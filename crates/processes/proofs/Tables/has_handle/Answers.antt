@@ -1,6 +1,7 @@
+use Rattle.std.specs.Prelude.{is_none}
 use Rattle.std.proofs.Common.{not, sym, ap, ◌∙◌}
 use Rattle.std.proofs.lemmas.Bool.{both_ways, le-ltb}
-use Rattle.turns.specs.World.{is_none, handle_of}
+use Rattle.turns.specs.World.{handle_of}
 use Rattle.processes.proofs.Called.{past_none}
 use Rattle.processes.proofs.Tables.has_handle.Goals as goal
 
