@@ -1,6 +1,6 @@
 // What screens show.
-ghost use Rattle.std.specs.Prelude.{◌≡◌, ℕ, ◌+◌, ◌^◌, ◌<◌, ◌≤◌, ◌↔◌, List, [], length, map, nat_le, All, is_ok, OnOk, OnErr};
-ghost use Rattle.queues.specs.Screens.{begin_of, Within, screen_of, total, Appended, Inserted};
+ghost use Rattle.std.specs.Prelude.{◌≡◌, ℕ, ◌+◌, ◌^◌, ◌<◌, ◌≤◌, List, [], length, map, nat_le, All, is_ok, OnOk, OnErr};
+ghost use Rattle.queues.specs.Screens.{Within, screen_of, total, Appended, Inserted};
 
 use crate::{Full, Screens};
 
