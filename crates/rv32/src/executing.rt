@@ -9,7 +9,7 @@ use crate::cpu::*;
 use instructions::{Instruction, decode};
 use turns::vocabulary::Call;
 
-// The call of a number and its arguments.
+// The call of a number and its arguments: the calling convention has numbers, and takes any of them, so that this is no TryFrom.
 pub fn call_of(number: u32, a: u32, b: u32, c: u32) -> Call
     ensures value { result ≡ call_of number a b c }
     ensures number { call_number result ≡ (if nat_lt number 12 then Some number else None) }
