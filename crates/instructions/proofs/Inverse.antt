@@ -484,11 +484,5 @@ inverse i = (
 )
 
 -- what encode answers
-pub answer_some : (i : Instruction) (w : ℕ) → formed i ≡ true → w ≡ encoded i → Some w ≡ encode_of i
-answer_some i w h e = rw (h, e)
-
-pub answer_none : (i : Instruction) → formed i ≡ false → None ≡ encode_of i
-answer_none i h = rw h
-
 pub answer_inverse : (i : Instruction) (r : Option ℕ) → r ≡ encode_of i → Inverse r i
 answer_inverse i r e = subst (λ (o : Option ℕ). Inverse o i) (sym e) (inverse i)

@@ -69,3 +69,7 @@ pub enum Instruction {
     Fence(u8, u8, u8, u8, u8),
     Ecall,
 }
+
+// A word, or a code in it, that stands for nothing here.
+#[derive(Clone, Copy, Debug, PartialEq, Eq)]
+pub struct Illegal;
