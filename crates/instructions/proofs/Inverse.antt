@@ -1,5 +1,5 @@
 -- Decoding and encoding are inverse to one another.
-use Rattle.std.proofs.Common.{◌≡◌, ℕ, ◌+◌, ◌*◌, ◌/◌, ◌%◌, ◌^◌, ◌<◌, Bool, true, false, cond, eqb, ℤ, pos, negsuc, ◌≤ℤ◌, ◌<ℤ◌, IfSome, Some, None, Option, sym, refl, ap, ◌∙◌, subst, arith}
+use Rattle.std.proofs.Common.{◌≡◌, ℕ, ◌+◌, ◌*◌, ◌/◌, ◌%◌, ◌^◌, ◌<◌, Bool, true, false, cond, eqb, ℤ, pos, negsuc, ◌≤ℤ◌, ◌<ℤ◌, IfSome, Some, None, Option, sym, refl, ap, ◌∙◌, subst, arith, rules}
 use Rattle.std.proofs.lemmas.Bool.{false≢true, cond_both, eqb-true}
 use Rattle.std.specs.Option.{option_map}
 use Rattle.std.proofs.lemmas.Int.{ints}
@@ -111,68 +111,28 @@ dec_jal : (w rd : ℕ) (z : ℤ) → opcode_of w ≡ 0x6f → rd_of w ≡ rd →
 dec_jal w rd z p q r = rw (p, q, r)
 
 condition_back : (t : Condition) → condition_of (condition_code t) ≡ Some t
-condition_back Eq = refl
-condition_back Ne = refl
-condition_back Lt = refl
-condition_back Ge = refl
-condition_back Ltu = refl
-condition_back Geu = refl
+condition_back t = grind arith
 
 load_back : (t : LoadWidth) → load_width_of (load_code t) ≡ Some t
-load_back L.Byte = refl
-load_back L.Half = refl
-load_back L.Word = refl
-load_back L.ByteUnsigned = refl
-load_back L.HalfUnsigned = refl
+load_back t = search arith
 
 store_back : (t : StoreWidth) → store_width_of (store_code t) ≡ Some t
-store_back S.Byte = refl
-store_back S.Half = refl
-store_back S.Word = refl
+store_back t = search rules
 
 operation_back : (o : Operation) → operation_of (operation_high o) (operation_code o) ≡ Some o
-operation_back Add = refl
-operation_back Sub = refl
-operation_back Sll = refl
-operation_back Slt = refl
-operation_back Sltu = refl
-operation_back Xor = refl
-operation_back Srl = refl
-operation_back Sra = refl
-operation_back Or = refl
-operation_back And = refl
+operation_back o = grind arith
 
 condition_small : (t : Condition) → condition_code t < 8
-condition_small Eq = omega arith
-condition_small Ne = omega arith
-condition_small Lt = omega arith
-condition_small Ge = omega arith
-condition_small Ltu = omega arith
-condition_small Geu = omega arith
+condition_small t = grind arith
 
 load_small : (t : LoadWidth) → load_code t < 8
-load_small L.Byte = omega arith
-load_small L.Half = omega arith
-load_small L.Word = omega arith
-load_small L.ByteUnsigned = omega arith
-load_small L.HalfUnsigned = omega arith
+load_small t = grind arith
 
 store_small : (t : StoreWidth) → store_code t < 8
-store_small S.Byte = omega arith
-store_small S.Half = omega arith
-store_small S.Word = omega arith
+store_small t = grind arith
 
 operation_small : (o : Operation) → (operation_code o < 8) × (operation_high o < 128)
-operation_small Add = (omega arith, omega arith)
-operation_small Sub = (omega arith, omega arith)
-operation_small Sll = (omega arith, omega arith)
-operation_small Slt = (omega arith, omega arith)
-operation_small Sltu = (omega arith, omega arith)
-operation_small Xor = (omega arith, omega arith)
-operation_small Srl = (omega arith, omega arith)
-operation_small Sra = (omega arith, omega arith)
-operation_small Or = (omega arith, omega arith)
-operation_small And = (omega arith, omega arith)
+operation_small o = grind arith
 
 dec_jalr : (w rd rs1 : ℕ) (z : ℤ) → opcode_of w ≡ 0x67 → funct3_of w ≡ 0 → rd_of w ≡ rd → rs1_of w ≡ rs1 → imm_i w ≡ z → decode_of w ≡ Some (Jalr rd rs1 z)
 dec_jalr w rd rs1 z p q r s t = rw (p, q, r, s, t)

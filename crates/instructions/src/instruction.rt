@@ -45,7 +45,8 @@ pub enum StoreWidth {
     Word,
 }
 
-// The parts of an instruction stand in this order: what it does, rd, rs1, rs2, the immediate.
+// The parts of an instruction stand in this order: what it does, rd, rs1, rs2, the immediate. A register is a `u8`, and not a type of the 32, since `encode`
+// takes any number and answers None for one that is no register.
 #[derive(Clone, Copy, Debug, PartialEq, Eq)]
 pub enum Instruction {
     // rd, and the word whose upper 20 bits the instruction holds; its 12 low bits are 0
