@@ -59,28 +59,10 @@ true_offset : (low high z : ℤ) → low ≤ℤ z → z <ℤ high → Even z →
 true_offset low high z h k e = and_from (between low high z) (even z) (true_between low high z h k) (eq-eqb (word_of z % 2) 0 e)
 
 fits_true : (o : Operation) (z : ℤ) → immediate_fits o z ≡ true → Fits o z
-fits_true Add z h = between_true _ _ z h
-fits_true Sub z h = absurd (false≢true h)
-fits_true Sll z h = between_true _ _ z h
-fits_true Slt z h = between_true _ _ z h
-fits_true Sltu z h = between_true _ _ z h
-fits_true Xor z h = between_true _ _ z h
-fits_true Srl z h = between_true _ _ z h
-fits_true Sra z h = between_true _ _ z h
-fits_true Or z h = between_true _ _ z h
-fits_true And z h = between_true _ _ z h
+fits_true o z h = grind (arith, ints)
 
 true_fits : (o : Operation) (z : ℤ) → Fits o z → immediate_fits o z ≡ true
-true_fits Add z h = true_between _ _ z h.0 h.1
-true_fits Sub z h = absurd h
-true_fits Sll z h = true_between _ _ z h.0 h.1
-true_fits Slt z h = true_between _ _ z h.0 h.1
-true_fits Sltu z h = true_between _ _ z h.0 h.1
-true_fits Xor z h = true_between _ _ z h.0 h.1
-true_fits Srl z h = true_between _ _ z h.0 h.1
-true_fits Sra z h = true_between _ _ z h.0 h.1
-true_fits Or z h = true_between _ _ z h.0 h.1
-true_fits And z h = true_between _ _ z h.0 h.1
+true_fits o z h = grind (arith, ints)
 
 -- a register, then the rest
 first_true : (n m : ℕ) (rest : Bool) → (ltb n m && rest) ≡ true → (n < m) × (rest ≡ true)

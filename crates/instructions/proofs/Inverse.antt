@@ -30,34 +30,6 @@ back_j : (z : ℤ) (x : ℕ) → Within 1048576 z → x ≡ low z 2097152 → si
 back_j z x h e = search (arith, ints, nat_tests)
 
 -- the fields of a packed word
-module _ (f7 rs2 rs1 f3 rd op : ℕ) (h7 : f7 < 128) (h2 : rs2 < 32) (h1 : rs1 < 32) (h3 : f3 < 8) (hd : rd < 32) (ho : op < 128) where
-  packed_opcode : opcode_of (packed f7 rs2 rs1 f3 rd op) ≡ op
-  packed_opcode = omega arith
-
-  packed_rd : rd_of (packed f7 rs2 rs1 f3 rd op) ≡ rd
-  packed_rd = omega arith
-
-  packed_funct3 : funct3_of (packed f7 rs2 rs1 f3 rd op) ≡ f3
-  packed_funct3 = omega arith
-
-  packed_rs1 : rs1_of (packed f7 rs2 rs1 f3 rd op) ≡ rs1
-  packed_rs1 = omega arith
-
-  packed_rs2 : rs2_of (packed f7 rs2 rs1 f3 rd op) ≡ rs2
-  packed_rs2 = omega arith
-
-  packed_funct7 : funct7_of (packed f7 rs2 rs1 f3 rd op) ≡ f7
-  packed_funct7 = omega arith
-
-  packed_imm_i : packed f7 rs2 rs1 f3 rd op / 1048576 ≡ f7 * 32 + rs2
-  packed_imm_i = omega arith
-
-  packed_bits_s : bits_s (packed f7 rs2 rs1 f3 rd op) ≡ f7 * 32 + rd
-  packed_bits_s = omega arith
-
-  packed_bits_b : bits_b (packed f7 rs2 rs1 f3 rd op) ≡ f7 / 64 * 4096 + rd % 2 * 2048 + f7 % 64 * 32 + rd / 2 * 2
-  packed_bits_b = omega arith
-
 record Has (f7 rs2 rs1 f3 rd op w : ℕ) : Type 0 where
   opcode : opcode_of w ≡ op
   dest : rd_of w ≡ rd
@@ -71,15 +43,15 @@ record Has (f7 rs2 rs1 f3 rd op w : ℕ) : Type 0 where
 
 has : (f7 rs2 rs1 f3 rd op : ℕ) → f7 < 128 → rs2 < 32 → rs1 < 32 → f3 < 8 → rd < 32 → op < 128 → Has f7 rs2 rs1 f3 rd op (packed f7 rs2 rs1 f3 rd op)
 has a b c d e f p q r s t u = record {
-  opcode = packed_opcode a b c d e f p q r s t u;
-  dest = packed_rd a b c d e f p q r s t u;
-  funct3 = packed_funct3 a b c d e f p q r s t u;
-  first = packed_rs1 a b c d e f p q r s t u;
-  second = packed_rs2 a b c d e f p q r s t u;
-  funct7 = packed_funct7 a b c d e f p q r s t u;
-  i_bits = packed_imm_i a b c d e f p q r s t u;
-  s_bits = packed_bits_s a b c d e f p q r s t u;
-  b_bits = packed_bits_b a b c d e f p q r s t u;
+  opcode = omega arith;
+  dest = omega arith;
+  funct3 = omega arith;
+  first = omega arith;
+  second = omega arith;
+  funct7 = omega arith;
+  i_bits = omega arith;
+  s_bits = omega arith;
+  b_bits = omega arith;
 }
 
 module _ (a b c d rd op : ℕ) (ha : a < 2) (hb : b < 1024) (hc : c < 2) (hd : d < 256) (hr : rd < 32) (ho : op < 128) where
@@ -196,16 +168,7 @@ is_plain Or = true
 is_plain And = true
 
 op_imm_plain : (o : Operation) → is_plain o ≡ true → (w rd rs1 : ℕ) (z : ℤ) → funct3_of w ≡ operation_code o → rd_of w ≡ rd → rs1_of w ≡ rs1 → imm_i w ≡ z → op_imm_of w ≡ Some (OpImm o rd rs1 z)
-op_imm_plain Add e w rd rs1 z p q r s = rw (p, q, r, s)
-op_imm_plain Sub e w rd rs1 z p q r s = absurd (false≢true e)
-op_imm_plain Sll e w rd rs1 z p q r s = absurd (false≢true e)
-op_imm_plain Slt e w rd rs1 z p q r s = rw (p, q, r, s)
-op_imm_plain Sltu e w rd rs1 z p q r s = rw (p, q, r, s)
-op_imm_plain Xor e w rd rs1 z p q r s = rw (p, q, r, s)
-op_imm_plain Srl e w rd rs1 z p q r s = absurd (false≢true e)
-op_imm_plain Sra e w rd rs1 z p q r s = absurd (false≢true e)
-op_imm_plain Or e w rd rs1 z p q r s = rw (p, q, r, s)
-op_imm_plain And e w rd rs1 z p q r s = rw (p, q, r, s)
+op_imm_plain o e w rd rs1 z p q r s = grind arith
 
 back_plain : (o : Operation) (rd rs1 : ℕ) (z : ℤ) → is_plain o ≡ true → rd < 32 → rs1 < 32 → Within 2048 z → decode_of (packed_i z rs1 (operation_code o) rd 0x13) ≡ Some (OpImm o rd rs1 z)
 back_plain o rd rs1 z e hd h1 hz =
@@ -213,16 +176,7 @@ back_plain o rd rs1 z e hd h1 hz =
     dec_op_imm w (OpImm o rd rs1 z) h.opcode (op_imm_plain o e w rd rs1 z h.funct3 h.dest h.first (imm_i_is z rs1 (operation_code o) rd 0x13 w hz h))
 
 op_imm_shift : (o : Operation) → shifts o ≡ true → (w rd rs1 rs2 : ℕ) → funct7_of w ≡ operation_high o → funct3_of w ≡ operation_code o → rd_of w ≡ rd → rs1_of w ≡ rs1 → rs2_of w ≡ rs2 → op_imm_of w ≡ Some (OpImm o rd rs1 (pos rs2))
-op_imm_shift Add e w rd rs1 rs2 p q r s t = absurd (false≢true e)
-op_imm_shift Sub e w rd rs1 rs2 p q r s t = absurd (false≢true e)
-op_imm_shift Sll e w rd rs1 rs2 p q r s t = rw (p, q, r, s, t)
-op_imm_shift Slt e w rd rs1 rs2 p q r s t = absurd (false≢true e)
-op_imm_shift Sltu e w rd rs1 rs2 p q r s t = absurd (false≢true e)
-op_imm_shift Xor e w rd rs1 rs2 p q r s t = absurd (false≢true e)
-op_imm_shift Srl e w rd rs1 rs2 p q r s t = rw (p, q, r, s, t)
-op_imm_shift Sra e w rd rs1 rs2 p q r s t = rw (p, q, r, s, t)
-op_imm_shift Or e w rd rs1 rs2 p q r s t = absurd (false≢true e)
-op_imm_shift And e w rd rs1 rs2 p q r s t = absurd (false≢true e)
+op_imm_shift o e w rd rs1 rs2 p q r s t = grind arith
 
 back_shift : (o : Operation) (rd rs1 : ℕ) (z : ℤ) → shifts o ≡ true → rd < 32 → rs1 < 32 → Amount z → decode_of (packed (operation_high o) (low z 32) rs1 (operation_code o) rd 0x13) ≡ Some (OpImm o rd rs1 z)
 back_shift o rd rs1 z e hd h1 hz =
@@ -292,22 +246,16 @@ cases_mapped f Q R None q k = tt
 cases_mapped f Q R (Some t) q k = k t q
 
 condition_forth : (n : ℕ) → IfSome (condition_of n) (λ t. condition_code t ≡ n)
-condition_forth n = by_funct3_all (λ o. IfSome o (λ t. condition_code t ≡ n)) n _ _ _ _ _ _ _ _ sym sym (λ _. tt) (λ _. tt) sym sym sym sym tt
+condition_forth n = grind arith
 
 load_forth : (n : ℕ) → IfSome (load_width_of n) (λ t. load_code t ≡ n)
-load_forth n = by_funct3_all (λ o. IfSome o (λ t. load_code t ≡ n)) n _ _ _ _ _ _ _ _ sym sym sym (λ _. tt) sym sym (λ _. tt) (λ _. tt) tt
+load_forth n = grind arith
 
 store_forth : (n : ℕ) → IfSome (store_width_of n) (λ t. store_code t ≡ n)
-store_forth n = by_funct3_all (λ o. IfSome o (λ t. store_code t ≡ n)) n _ _ _ _ _ _ _ _ sym sym sym (λ _. tt) (λ _. tt) (λ _. tt) (λ _. tt) (λ _. tt) tt
+store_forth n = grind arith
 
 operation_forth : (m n : ℕ) → IfSome (operation_of m n) (λ o. (operation_high o ≡ m) × (operation_code o ≡ n))
-operation_forth m n =
-    let P : Option Operation → Type 0 = λ x. IfSome x (λ o. (operation_high o ≡ m) × (operation_code o ≡ n)) in
-    cond_both (eqb m 0) _ _ P
-    (λ q. let e = sym (eqb-true m 0 q) in by_funct3_all P n _ _ _ _ _ _ _ _ (λ r. (e, sym r)) (λ r. (e, sym r)) (λ r. (e, sym r)) (λ r. (e, sym r)) (λ r. (e, sym r)) (λ r. (e, sym r)) (λ r. (e, sym r)) (λ r. (e, sym r)) tt)
-    λ _. cond_both (eqb m 32) _ _ P
-    (λ q. let e = sym (eqb-true m 32 q) in by_funct3_all P n _ _ _ _ _ _ _ _ (λ r. (e, sym r)) (λ _. tt) (λ _. tt) (λ _. tt) (λ _. tt) (λ r. (e, sym r)) (λ _. tt) (λ _. tt) tt)
-    λ _. tt
+operation_forth m n = grind arith
 
 -- the bits of a signed number, and its range
 forth_i : (x : ℕ) → x < 4096 → (low (signed_of 2048 x) 4096 ≡ x) × (Within 2048 (signed_of 2048 x))
