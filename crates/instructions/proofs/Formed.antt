@@ -1,14 +1,12 @@
 -- What it takes for an instruction to be well-formed, as facts about numbers.
-use Rattle.std.proofs.Common.{◌≡◌, ℕ, ◌-◌, ◌%◌, ◌<◌, Bool, true, ◌&&◌, ltb, ℤ, pos, negsuc, ◌≤ℤ◌, ◌<ℤ◌, refl, arith}
-use lib.Signed.{le_z, lt_z}
-use Rattle.std.proofs.lemmas.Bool.{false≢true, and_parts, and_from, ltb-true, lt-ltb, eqb-true, eq-eqb}
+use Rattle.std.proofs.Common.{◌≡◌, ℕ, ◌-◌, ◌%◌, ◌<◌, true, ℤ, pos, negsuc, ◌≤ℤ◌, ◌<ℤ◌, refl, arith}
 use Rattle.std.proofs.lemmas.Int.{ints}
 use Rattle.instructions.specs.declared.instruction.Operation.{Operation}
 use Rattle.instructions.specs.declared.instruction.Operation.TheVariants.{Add, Sub, Sll, Slt, Sltu, Xor, Srl, Sra, Or, And}
 use Rattle.instructions.specs.declared.instruction.Instruction.{Instruction}
 use Rattle.instructions.specs.declared.instruction.Instruction.TheVariants.{Lui, Auipc, Jal, Jalr, Branch, Load, Store, OpImm, Op, Fence, Ecall}
 use Rattle.instructions.specs.Fields.{word_of}
-use Rattle.instructions.specs.Encode.{between, even, immediate_fits, formed}
+use Rattle.instructions.specs.Encode.{formed}
 
 -- from - h to h - 1
 abbrev pub Within : ℕ → ℤ → Type 0

@@ -1,22 +1,18 @@
 -- Decoding and encoding are inverse to one another.
-use Rattle.std.proofs.Common.{◌≡◌, ℕ, ◌+◌, ◌*◌, ◌/◌, ◌%◌, ◌^◌, ◌<◌, Bool, true, false, cond, eqb, ℤ, pos, negsuc, ◌≤ℤ◌, ◌<ℤ◌, IfSome, Some, None, Option, sym, refl, ap, ◌∙◌, subst, arith, rules}
-use Rattle.std.proofs.lemmas.Bool.{false≢true, cond_both, eqb-true}
+use Rattle.std.proofs.Common.{◌≡◌, ℕ, ◌+◌, ◌*◌, ◌/◌, ◌%◌, ◌^◌, ◌<◌, Bool, true, false, cond, if◌then◌else◌, eqb, ℤ, pos, negsuc, ◌≤ℤ◌, ◌<ℤ◌, IfSome, Some, None, Option, sym, refl, ap, ◌∙◌, subst, arith, rules}
+use Rattle.std.proofs.lemmas.Bool.{cond_both, eqb-true}
 use Rattle.std.specs.Option.{option_map}
 use Rattle.std.proofs.lemmas.Int.{ints}
 use Rattle.std.proofs.lemmas.Bool.Decides.{nat_tests}
 use Rattle.instructions.specs.declared.instruction.Operation.{Operation}
-use Rattle.instructions.specs.declared.instruction.Operation.TheVariants.{Add, Sub, Sll, Slt, Sltu, Xor, Srl, Sra, Or, And}
 use Rattle.instructions.specs.declared.instruction.Condition.{Condition}
-use Rattle.instructions.specs.declared.instruction.Condition.TheVariants.{Eq, Ne, Lt, Ge, Ltu, Geu}
 use Rattle.instructions.specs.declared.instruction.LoadWidth.{LoadWidth}
-use Rattle.instructions.specs.declared.instruction.LoadWidth.TheVariants as L
 use Rattle.instructions.specs.declared.instruction.StoreWidth.{StoreWidth}
-use Rattle.instructions.specs.declared.instruction.StoreWidth.TheVariants as S
 use Rattle.instructions.specs.declared.instruction.Instruction.{Instruction}
 use Rattle.instructions.specs.declared.instruction.Instruction.TheVariants.{Lui, Auipc, Jal, Jalr, Branch, Load, Store, OpImm, Op, Fence, Ecall}
 use Rattle.instructions.specs.Fields.{opcode_of, rd_of, funct3_of, rs1_of, rs2_of, funct7_of, fm_of, pred_of, succ_of, upper_of, signed_of, word_of, imm_i, imm_s, imm_b, imm_j, bits_s, bits_b, bits_j}
 use Rattle.instructions.specs.Decode.{by_funct3, decode_of, op_imm_of, condition_of, load_width_of, store_width_of, operation_of}
-use Rattle.instructions.proofs.Formed.{Within, Amount, Formed, formed_true, true_formed}
+use Rattle.instructions.proofs.Formed.{Within, Amount, Fits, Formed, formed_true, true_formed}
 use Rattle.instructions.specs.Encode.{encoded, formed, encode_of, Inverse, low, packed, packed_i, condition_code, load_code, store_code, operation_code, operation_high, shifts}
 
 back_i : (z : ℤ) (x : ℕ) → Within 2048 z → x ≡ low z 4096 → signed_of 2048 x ≡ z
@@ -154,36 +150,37 @@ has_i z rs1 f3 rd op h1 h3 hd ho = has (low z 4096 / 32) (low z 32) rs1 f3 rd op
 imm_i_is : (z : ℤ) (rs1 f3 rd op w : ℕ) → Within 2048 z → Has (low z 4096 / 32) (low z 32) rs1 f3 rd op w → imm_i w ≡ z
 imm_i_is z rs1 f3 rd op w hz h = back_i z (w / 1048576) hz (h.i_bits ∙ halves (word_of z))
 
--- an operation on a register and an immediate, whose op is no shift
-abbrev is_plain : Operation → Bool
-is_plain Add = true
-is_plain Sub = false
-is_plain Sll = false
-is_plain Slt = true
-is_plain Sltu = true
-is_plain Xor = true
-is_plain Srl = false
-is_plain Sra = false
-is_plain Or = true
-is_plain And = true
+-- an operation on a register and an immediate, without and with a shift
+op_imm_plain : (o : Operation) (z : ℤ) → shifts o ≡ false → Fits o z → (w rd rs1 : ℕ) → funct3_of w ≡ operation_code o → rd_of w ≡ rd → rs1_of w ≡ rs1 → imm_i w ≡ z
+    → op_imm_of w ≡ Some (OpImm o rd rs1 z)
+op_imm_plain o z e g w rd rs1 p q r s = grind arith
 
-op_imm_plain : (o : Operation) → is_plain o ≡ true → (w rd rs1 : ℕ) (z : ℤ) → funct3_of w ≡ operation_code o → rd_of w ≡ rd → rs1_of w ≡ rs1 → imm_i w ≡ z → op_imm_of w ≡ Some (OpImm o rd rs1 z)
-op_imm_plain o e w rd rs1 z p q r s = grind arith
+within : (o : Operation) (z : ℤ) → shifts o ≡ false → Fits o z → Within 2048 z
+within o z e g = grind arith
 
-back_plain : (o : Operation) (rd rs1 : ℕ) (z : ℤ) → is_plain o ≡ true → rd < 32 → rs1 < 32 → Within 2048 z → decode_of (packed_i z rs1 (operation_code o) rd 0x13) ≡ Some (OpImm o rd rs1 z)
+back_plain : (o : Operation) (rd rs1 : ℕ) (z : ℤ) → shifts o ≡ false → rd < 32 → rs1 < 32 → Fits o z → decode_of (packed_i z rs1 (operation_code o) rd 0x13) ≡ Some (OpImm o rd rs1 z)
 back_plain o rd rs1 z e hd h1 hz =
     let w = packed_i z rs1 (operation_code o) rd 0x13 in let h = has_i z rs1 (operation_code o) rd 0x13 h1 (operation_small o).0 hd (omega arith) in
-    dec_op_imm w (OpImm o rd rs1 z) h.opcode (op_imm_plain o e w rd rs1 z h.funct3 h.dest h.first (imm_i_is z rs1 (operation_code o) rd 0x13 w hz h))
+    dec_op_imm w (OpImm o rd rs1 z) h.opcode (op_imm_plain o z e hz w rd rs1 h.funct3 h.dest h.first (imm_i_is z rs1 (operation_code o) rd 0x13 w (within o z e hz) h))
 
 op_imm_shift : (o : Operation) → shifts o ≡ true → (w rd rs1 rs2 : ℕ) → funct7_of w ≡ operation_high o → funct3_of w ≡ operation_code o → rd_of w ≡ rd → rs1_of w ≡ rs1 → rs2_of w ≡ rs2 → op_imm_of w ≡ Some (OpImm o rd rs1 (pos rs2))
 op_imm_shift o e w rd rs1 rs2 p q r s t = grind arith
 
-back_shift : (o : Operation) (rd rs1 : ℕ) (z : ℤ) → shifts o ≡ true → rd < 32 → rs1 < 32 → Amount z → decode_of (packed (operation_high o) (low z 32) rs1 (operation_code o) rd 0x13) ≡ Some (OpImm o rd rs1 z)
+amount : (o : Operation) (z : ℤ) → shifts o ≡ true → Fits o z → Amount z
+amount o z e g = grind arith
+
+back_shift : (o : Operation) (rd rs1 : ℕ) (z : ℤ) → shifts o ≡ true → rd < 32 → rs1 < 32 → Fits o z → decode_of (packed (operation_high o) (low z 32) rs1 (operation_code o) rd 0x13) ≡ Some (OpImm o rd rs1 z)
 back_shift o rd rs1 z e hd h1 hz =
+    let a = amount o z e hz in
     let w = packed (operation_high o) (low z 32) rs1 (operation_code o) rd 0x13 in
     let h = has (operation_high o) (low z 32) rs1 (operation_code o) rd 0x13 (operation_small o).1 (omega arith) h1 (operation_small o).0 hd (omega arith) in
     let g : pos (low z 32) ≡ z = grind (arith, ints) in
     dec_op_imm w (OpImm o rd rs1 z) h.opcode (op_imm_shift o e w rd rs1 (low z 32) h.funct7 h.funct3 h.dest h.first h.second ∙ ap (λ y. Some (OpImm o rd rs1 y)) g)
+
+back_op_imm : (o : Operation) (rd rs1 : ℕ) (z : ℤ) (b : Bool) → shifts o ≡ b → rd < 32 → rs1 < 32 → Fits o z
+    → decode_of (if b then packed (operation_high o) (low z 32) rs1 (operation_code o) rd 0x13 else packed_i z rs1 (operation_code o) rd 0x13) ≡ Some (OpImm o rd rs1 z)
+back_op_imm o rd rs1 z true e hd h1 hz = back_shift o rd rs1 z e hd h1 hz
+back_op_imm o rd rs1 z false e hd h1 hz = back_plain o rd rs1 z e hd h1 hz
 
 pub decodes_back : (i : Instruction) → Formed i → decode_of (encoded i) ≡ Some i
 decodes_back (Lui rd imm) f = dec_lui (encoded (Lui rd imm)) rd imm (omega arith) (omega arith) (omega arith)
@@ -208,16 +205,7 @@ decodes_back (Store t rs1 rs2 z) f =
     let w = encoded (Store t rs1 rs2 z) in
     let h = has (low z 4096 / 32) rs2 rs1 (store_code t) (low z 32) 0x23 (omega arith) f.1 f.0 (store_small t) (omega arith) (omega arith) in
     dec_store t w rs1 rs2 z h.opcode (ap store_width_of h.funct3 ∙ store_back t) h.first h.second (back_i z (bits_s w) f.2 (h.s_bits ∙ halves (word_of z)))
-decodes_back (OpImm Add rd rs1 z) f = back_plain Add rd rs1 z refl f.0 f.1 f.2
-decodes_back (OpImm Sub rd rs1 z) f = absurd f.2
-decodes_back (OpImm Sll rd rs1 z) f = back_shift Sll rd rs1 z refl f.0 f.1 f.2
-decodes_back (OpImm Slt rd rs1 z) f = back_plain Slt rd rs1 z refl f.0 f.1 f.2
-decodes_back (OpImm Sltu rd rs1 z) f = back_plain Sltu rd rs1 z refl f.0 f.1 f.2
-decodes_back (OpImm Xor rd rs1 z) f = back_plain Xor rd rs1 z refl f.0 f.1 f.2
-decodes_back (OpImm Srl rd rs1 z) f = back_shift Srl rd rs1 z refl f.0 f.1 f.2
-decodes_back (OpImm Sra rd rs1 z) f = back_shift Sra rd rs1 z refl f.0 f.1 f.2
-decodes_back (OpImm Or rd rs1 z) f = back_plain Or rd rs1 z refl f.0 f.1 f.2
-decodes_back (OpImm And rd rs1 z) f = back_plain And rd rs1 z refl f.0 f.1 f.2
+decodes_back (OpImm o rd rs1 z) f = back_op_imm o rd rs1 z (shifts o) refl f.0 f.1 f.2
 decodes_back (Op o rd rs1 rs2) f =
     let h = has (operation_high o) rs2 rs1 (operation_code o) rd 0x33 (operation_small o).1 f.2 f.1 (operation_small o).0 f.0 (omega arith) in
     dec_op o (encoded (Op o rd rs1 rs2)) rd rs1 rs2 h.opcode (rw (h.funct7, h.funct3) (operation_back o)) h.dest h.first h.second
