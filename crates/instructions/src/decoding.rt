@@ -7,23 +7,16 @@ ghost use Rattle.instructions.specs.Encode.{encode_of};
 use crate::fields::*;
 use crate::instruction::*;
 
-// An operation with an immediate; the amount of a shift stands in the place of rs2.
+// An operation with an immediate, by the codes of the one without. Only a shift has a funct7, and its amount stands in the place of rs2.
 fn op_imm(word: u32) -> Result<Instruction, Illegal>
     ensures value { result_ok result ≡ op_imm_of word }
     ensures sound { IfOk result Sound }
 {
-    let (operation, imm) = match funct3(word) {
-        0 => (Operation::Add, immediate_i(word)),
-        1 if funct7(word) == 0 => (Operation::Sll, rs2(word) as i32),
-        2 => (Operation::Slt, immediate_i(word)),
-        3 => (Operation::Sltu, immediate_i(word)),
-        4 => (Operation::Xor, immediate_i(word)),
-        5 if funct7(word) == 0 => (Operation::Srl, rs2(word) as i32),
-        5 if funct7(word) == 0x20 => (Operation::Sra, rs2(word) as i32),
-        6 => (Operation::Or, immediate_i(word)),
-        7 => (Operation::And, immediate_i(word)),
-        _ => return Err(Illegal),
+    let (funct7, imm) = match funct3(word) {
+        1 | 5 => (funct7(word), rs2(word) as i32),
+        _ => (0, immediate_i(word)),
     };
+    let operation = Operation::try_from((funct7, funct3(word)))?;
     Ok(Instruction::OpImm(operation, rd(word), rs1(word), imm))
 }
 
