@@ -60,7 +60,7 @@ fn is_formed(instruction: Instruction) -> bool
     }
 }
 
-// The fields in their places.
+// The fields in their places; only here do the six go together.
 fn pack(funct7: u32, rs2: u8, rs1: u8, funct3: u32, rd: u8, opcode: u32) -> u32
     requires funct7_bound { (funct7 < 128) × ((rs2 < 32) × (rs1 < 32)) }
     requires funct3_bound { (funct3 < 8) × ((rd < 32) × (opcode < 128)) }
@@ -73,7 +73,7 @@ fn pack(funct7: u32, rs2: u8, rs1: u8, funct3: u32, rd: u8, opcode: u32) -> u32
     join(word, opcode, 7)
 }
 
-// An immediate in its places; the other fields are 0.
+// An immediate in its places, which each format has of its own; the other fields are 0.
 fn place_i(imm: i32) -> u32
     ensures { result ≡ packed_i imm 0 0 0 0 }
 {
