@@ -1,5 +1,4 @@
 -- Corners, computed. Assumes nothing.
-use Rattle.std.specs.Prelude.{is_none}
 use Rattle.std.proofs.Common.{refl}
 use Rattle.octets.specs.Rows.{pick, over, lowest_from}
 use Rattle.turns.specs.World.{is_free, is_running, is_left, left_with, is_nothing, is_write_end, is_read_end, leads_to, closed, with_processes, with_process, with_open, with_pipe, with_file, with_keys, with_shown, with_turn}
