@@ -1,12 +1,17 @@
 -- An image that is laid out step by step: what holds after each file, and that a whole one is a disc that holds them. Assumes nothing.
-use Rattle.std.proofs.Common.{◌≡◌, ℕ, ◌+◌, ◌-◌, ◌*◌, ◌/◌, ◌%◌, ◌^◌, ◌<◌, ◌≤◌, true, ◌⊎◌, List, [], ◌∷◌, length, get_or, take, set, replicate, sym, refl, ap, ◌∙◌, subst, inl, inr, ⊎_elim, arith}
+use Rattle.std.proofs.Common.{◌≡◌, ℕ, Bool, ltb, map, ◌+◌, ◌-◌, ◌*◌, ◌/◌, ◌%◌, ◌^◌, ◌<◌, ◌≤◌, true, ◌⊎◌, List, [], ◌∷◌, ◌++◌, length, get_or, take, drop, replicate, sym, refl, ap, ◌∙◌, subst, inl, inr, ⊎_elim, arith}
 use native.Mathlib.Nat.{zero-div}
 use borrow.Rule.Slice.PartMut.{put_mid}
-use Rattle.std.proofs.lemmas.List.{length-take, get_or_append_left, get_or-append_right, get_or-take, get_or-drop, get_or-set_other, ext_get_or}
+use Rattle.std.proofs.lemmas.List.{length-take, get_or_append_left, get_or-append_right, get_or-take, get_or-drop, ext_get_or}
 use Rattle.std.proofs.lemmas.List.FromFn.{get_or-map-range_with_len, fill_by_all}
 use Rattle.std.proofs.lemmas.Nat.{mul-add-lt}
 use Rattle.std.proofs.lemmas.Slice.{drop-put_mid}
-use Rattle.std.proofs.lemmas.Bool.{cases_lt}
+use Rattle.std.specs.Prelude.{false, Some, None, not, position, if◌then◌else◌}
+use Rattle.std.specs.List.{position_or_len}
+use Rattle.std.proofs.lemmas.Bool.{cond-true, cases_lt, ltb-true, ltb-false, lt-ltb}
+use Rattle.std.proofs.lemmas.List.{length-map}
+use Rattle.std.proofs.lemmas.List.Sums.{fails_before_first}
+use Rattle.std.proofs.lemmas.List.Quantifiers.{position-Some}
 use Rattle.octets.specs.Rows.{over, Bytes}
 use Rattle.octets.specs.Words.{word_at, word_bytes}
 use Rattle.octets.proofs.Over.{length_over, get_or_over_out}
@@ -68,19 +73,9 @@ words_more xs entry words i v l s e h o = (
     before k (inl a) = inl a
     before k (inr a) = inr (omega arith)
 
--- the name
-pub name_put : (xs : List ℕ) → 4 ≤ length xs → named (set (set (set (set xs 0 84) 1 85) 2 82) 3 78) ≡ true
-name_put [] h = absurd (omega arith)
-name_put (a ∷ []) h = absurd (omega arith)
-name_put (a ∷ b ∷ []) h = absurd (omega arith)
-name_put (a ∷ b ∷ c ∷ []) h = absurd (omega arith)
-name_put (a ∷ b ∷ c ∷ d ∷ xs) h = refl
-
-pub name_other : (xs : List ℕ) (a b c d k : ℕ) → 4 ≤ k → get_or (set (set (set (set xs 0 a) 1 b) 2 c) 3 d) k 0 ≡ get_or xs k 0
-name_other xs a b c d k h =
-    get_or-set_other (set (set (set xs 0 a) 1 b) 2 c) 3 k d 0 (λ e. omega arith) ∙ get_or-set_other (set (set xs 0 a) 1 b) 2 k c 0 (λ e. omega arith)
-    ∙ get_or-set_other (set xs 0 a) 1 k b 0 (λ e. omega arith)
-    ∙ get_or-set_other xs 0 k a 0 (λ e. omega arith)
+-- what lies behind the name stays
+pub name_other : (xs ys : List ℕ) (k : ℕ) → length ys ≡ 4 → 4 ≤ k → get_or (ys ++ drop 4 xs) k 0 ≡ get_or xs k 0
+name_other xs ys k e h = let q : 4 + (k - 4) ≡ k = omega arith in get_or-append_right ys (drop 4 xs) 4 k 0 e h ∙ get_or-drop 4 xs (k - 4) 0 ∙ ap (λ (i : ℕ). get_or xs i 0) q
 
 -- the sizes
 pub sizes_are : (xs : List ℕ) (z : Sizes) →
@@ -88,6 +83,37 @@ pub sizes_are : (xs : List ℕ) (z : Sizes) →
 unfolding sizes_in
 sizes_are xs z h =
     rw (h 0 (omega arith), h 1 (omega arith), h 2 (omega arith), h 3 (omega arith), h 4 (omega arith), h 5 (omega arith), h 6 (omega arith), h 7 (omega arith), h 8 (omega arith), h 9 (omega arith))
+
+-- where no place is found, the test fails at all of them
+position_none : {X : Type 0} (test : X → Bool) (xs : List X) → position test xs ≡ None → (k : ℕ) (d : X) → k < length xs → test (get_or xs k d) ≡ false
+position_none test xs e k d l =
+    ⊎_elim
+    (λ (u : position_or_len test xs < length xs).
+    let z : ◌≡◌ {A = ℕ} 0 1 = cc (cond-true _ (Some (position_or_len test xs)) None (lt-ltb (position_or_len test xs) (length xs) u)) in absurd (omega arith))
+    (λ (u : length xs ≤ position_or_len test xs). fails_before_first test xs k d (omega arith))
+    (cases_lt (position_or_len test xs) (length xs))
+
+-- the first file that is too long, where each file is seen as its row of bytes
+module _ {V : Type 0} (row : V → List ℕ) (long : List ℕ → Bool) where
+  place_map : (vs : List V) → position_or_len (λ v. long (row v)) vs ≡ position_or_len long (map row vs)
+  place_map [] = refl
+  place_map (v ∷ vs) = ap (λ (n : ℕ). if not (long (row v)) then 1 + n else 0) (place_map vs)
+
+  position_map : (vs : List V) → position (λ v. long (row v)) vs ≡ position long (map row vs)
+  position_map vs = rw (place_map vs, length-map vs row) refl
+
+module _ {V : Type 0} (z : Sizes) (row : V → List ℕ) (vs : List V) where
+  pub long_at : (f : ℕ) → position (λ v. ltb z.file (length (row v))) vs ≡ Some f →
+      (f < length vs) × (z.file < length (get_or (map row vs) f [])) × Short z (map row vs) f
+  long_at f e =
+      let s = position-Some (λ (bs : List ℕ). ltb z.file (length bs)) (map row vs) f [] (sym (position_map row (λ bs. ltb z.file (length bs)) vs) ∙ e) in
+      let n = length-map vs row in
+      (omega (arith, s.0), ltb-true _ _ s.1, λ g l. ltb-false _ _ (s.2 g l))
+
+  pub long_nowhere : position (λ v. ltb z.file (length (row v))) vs ≡ None → Short z (map row vs) (length vs)
+  long_nowhere e f l =
+      let n = length-map vs row in
+      ltb-false _ _ (position_none (λ (bs : List ℕ). ltb z.file (length bs)) (map row vs) (sym (position_map row (λ bs. ltb z.file (length bs)) vs) ∙ e) f [] (omega arith))
 
 -- one file
 filed : (xs w ys bs : List ℕ) (a m f n : ℕ) → w ≡ over xs (1024 + 4 * f) (word_bytes n) → word_at w (1024 + 4 * f) ≡ n → ys ≡ bs → m ≡ length bs → n ≡ length bs → 1028 + 4 * f ≤ a →

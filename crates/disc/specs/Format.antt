@@ -24,7 +24,7 @@ Counted z fs = InRange z × (length fs ≡ z.files)
 
 -- WHY files do not fit on a disc of n bytes: the first reason, in this order
 abbrev pub Misfits : Sizes → List (List ℕ) → ℕ → Misfit → Type 0
-Misfits z fs n (Size i) = first_out z ≡ Some i
+Misfits z fs n (Size name) = first_out z ≡ Some name
 Misfits z fs n Count = InRange z × (length fs ≢ z.files)
 Misfits z fs n (File f) = Counted z fs × Short z fs f × (f < z.files) × (z.file < length (slice_index_or fs f []))
 Misfits z fs n (Image m) = Counted z fs × Short z fs z.files × (m ≡ image_length z) × (n ≢ m)

@@ -4,7 +4,7 @@ ghost use Rattle.disc.specs.Blocks.{at, blocks};
 ghost use Rattle.disc.specs.Writes.{put_on, spent, puts, spent_by, row_writes, LastingWrites, LeftTears, OthersStay, GoneOrDone};
 
 // How long power lasts: for ever; for so many more writes, and then the next one is torn; or no longer.
-#[derive(Clone, Copy)]
+#[derive(Clone, Copy, Debug, PartialEq, Eq)]
 pub enum Power {
     Lasting,
     Left(u32),
