@@ -58,8 +58,9 @@ pub fn put_row(
     ensures disc { blocks disc.new ≡ puts power.old (blocks disc.old) (row_writes first (at (blocks bytes.now)) n) torn.now }
     ensures power { power.new ≡ spent_by power.old (row_writes first (at (blocks bytes.now)) n) }
 {
-    for i in 0..n {
-        put(disc, power, torn, first + i, &bytes[512 * i..512 * i + 512]);
+    let (blocks, _) = bytes.as_chunks::<512>();
+    for (i, block) in blocks[..n].iter().enumerate() {
+        put(disc, power, torn, first + i, block);
     }
 }
 

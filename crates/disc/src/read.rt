@@ -17,8 +17,8 @@ pub fn read_by(disc: &[u8], plan: Plan, head: &[u8], f: usize, from: usize, out:
     requires sound { length_in (blocks head.now) f ≤ plan.size }
     ensures { out.new ≡ take (length out.old) (drop from (file_in plan (blocks head.now) (blocks disc.now) f)) }
 {
-    for k in 0..out.len() {
-        out[k] = byte_at(disc, plan, head, f, from + k);
+    for (k, byte) in out.iter_mut().enumerate() {
+        *byte = byte_at(disc, plan, head, f, from + k);
     }
 }
 
