@@ -20,7 +20,7 @@ use Rattle.octets.proofs.Numbers.{word_over, word_over_out}
 use Rattle.turns.specs.Ranges.{InRange, Fits}
 use Rattle.turns.specs.declared.vocabulary.Sizes.{Sizes}
 use Rattle.disc.specs.Blocks.{at, blocks}
-use Rattle.disc.specs.Layout.{plan_of, head_at, data_at, place, room, current, header, current_header, length_in, copy_in, file_in, files_in, files_on, Sound, Fit}
+use Rattle.disc.specs.Layout.{Shape, plan_of, head_at, data_at, place, room, current, header, current_header, length_in, copy_in, file_in, files_in, files_on, Sound, Fit}
 use Rattle.disc.specs.Check.{named, sizes_in, Holds}
 use Rattle.disc.specs.Format.{image_length, Short, Misfits, Planned, Laid}
 use Rattle.disc.specs.declared.format.Misfit.{Misfit}
@@ -28,7 +28,6 @@ use Rattle.disc.specs.declared.format.Misfit.TheVariants.{Size, Count, File, Ima
 use Rattle.disc.proofs.Cuts.{length_blocks, blocks_whole}
 use Rattle.disc.proofs.Places.{row_in, fits, byte_of, word_of, current_byte, file_length, file_byte}
 use Rattle.disc.proofs.Verdicts.{named_first, sizes_first, block_bytes, if_range}
-use Rattle.disc.specs.declared.layout.Plan.{Plan}
 
 -- a byte of a part that was overwritten, and any other
 pub put_mid_in : (a n : ℕ) (xs ys : List ℕ) (k : ℕ) → a ≤ length xs → k < length ys → get_or (put_mid a n xs ys) (a + k) 0 ≡ get_or ys k 0
@@ -173,7 +172,7 @@ sizes_same xs ys h =
     same a l = word_same xs ys a (λ k _ u. h k (omega arith))
 
 -- an image without files
-pub laid_none : (z : Sizes) (p : Plan) (fs : List (List ℕ)) (xs : List ℕ) → length xs ≡ 512 * room p → named xs ≡ true → sizes_in xs ≡ z → ((k : ℕ) → 44 ≤ k → k < length xs → get_or xs k 0 ≡ 0) →
+pub laid_none : (z : Sizes) (p : Shape) (fs : List (List ℕ)) (xs : List ℕ) → length xs ≡ 512 * room p → named xs ≡ true → sizes_in xs ≡ z → ((k : ℕ) → 44 ≤ k → k < length xs → get_or xs k 0 ≡ 0) →
     Laid z p fs 0 xs
 laid_none z p fs xs size name sizes bare =
     record {
@@ -187,7 +186,7 @@ laid_none z p fs xs size name sizes bare =
     }
 
 -- one file more
-module _ (z : Sizes) (p : Plan) (fs : List (List ℕ)) (i : ℕ) (xs ys : List ℕ) (fit : Fit p) (laid : Laid z p fs i xs) (within : i < p.files)
+module _ (z : Sizes) (p : Shape) (fs : List (List ℕ)) (i : ℕ) (xs ys : List ℕ) (fit : Fit p) (laid : Laid z p fs i xs) (within : i < p.files)
     (short : (f : ℕ) → f < p.files → length (get_or fs f []) ≤ p.size) (size : length ys ≡ length xs) (long : word_at ys (1024 + 4 * i) ≡ length (get_or fs i []))
     (held : (k : ℕ) → k < length (get_or fs i []) → get_or ys (512 * (data_at p + i * p.each) + k) 0 ≡ get_or (get_or fs i []) k 0)
     (others : (k : ℕ) → (k < 1024 + 4 * i) ⊎ (1028 + 4 * i ≤ k) → (k < 512 * (data_at p + i * p.each)) ⊎ (512 * (data_at p + i * p.each) + length (get_or fs i []) ≤ k) → get_or ys k 0 ≡ get_or xs k 0) where
@@ -226,7 +225,7 @@ module _ (z : Sizes) (p : Plan) (fs : List (List ℕ)) (i : ℕ) (xs ys : List �
       }
 
 -- A WHOLE IMAGE. Where its files are found
-module _ (z : Sizes) (p : Plan) (fs : List (List ℕ)) (xs : List ℕ) (fit : Fit p) (one : 1 ≤ p.head) (laid : Laid z p fs p.files xs)
+module _ (z : Sizes) (p : Shape) (fs : List (List ℕ)) (xs : List ℕ) (fit : Fit p) (one : 1 ≤ p.head) (laid : Laid z p fs p.files xs)
     (short : (f : ℕ) → f < p.files → length (get_or fs f []) ≤ p.size) where
   root_first : current (blocks xs) ≡ 0
   root_first = let s = laid.size in current_byte xs (omega arith) ∙ rw laid.root
@@ -311,7 +310,7 @@ fits_never z fs n (File g) f s m = let a = f.short g in let b = m.3 in omega ari
 fits_never z fs n (Image k) f s m = m.3 (s ∙ sym m.2)
 
 -- one file more, from what the code has put
-pub laid_step : (z : Sizes) (p : Plan) (fs : List (List ℕ)) (i : ℕ) (xs ys bs : List ℕ) → Fit p → Laid z p fs i xs → i < p.files →
+pub laid_step : (z : Sizes) (p : Shape) (fs : List (List ℕ)) (i : ℕ) (xs ys bs : List ℕ) → Fit p → Laid z p fs i xs → i < p.files →
     ((f : ℕ) → f < p.files → length (get_or fs f []) ≤ p.size) → length ys ≡ length xs → bs ≡ get_or fs i [] → word_at ys (1024 + 4 * i) ≡ length bs →
     ((k : ℕ) → k < length bs → get_or ys (512 * (data_at p + i * p.each) + k) 0 ≡ get_or bs k 0) →
     ((k : ℕ) → (k < 1024 + 4 * i) ⊎ (1028 + 4 * i ≤ k) → (k < 512 * (data_at p + i * p.each)) ⊎ (512 * (data_at p + i * p.each) + length bs ≤ k) → get_or ys k 0 ≡ get_or xs k 0) →
@@ -324,14 +323,14 @@ laid_step z p fs i xs ys bs fit laid within short size e =
     (sym e) (laid_more z p fs i xs ys fit laid within short size)
 
 -- an image of zeros, with the name and the sizes put onto it
-pub laid_bare : (z : Sizes) (p : Plan) (fs : List (List ℕ)) (xs ys : List ℕ) (n : ℕ) → n ≡ 512 * room p → xs ≡ replicate n 0 → length ys ≡ n → named ys ≡ true → sizes_in ys ≡ z →
+pub laid_bare : (z : Sizes) (p : Shape) (fs : List (List ℕ)) (xs ys : List ℕ) (n : ℕ) → n ≡ 512 * room p → xs ≡ replicate n 0 → length ys ≡ n → named ys ≡ true → sizes_in ys ≡ z →
     ((k : ℕ) → 44 ≤ k → get_or ys k 0 ≡ get_or xs k 0) → Laid z p fs 0 ys
 laid_bare z p fs xs ys n size zeros same name sizes others =
     laid_none z p fs ys (same ∙ size) name sizes (λ k l u. others k l ∙ ap (λ (v : List ℕ). get_or v k 0) zeros ∙ get_or_all n k 0)
 
-pub holds_by : (z : Sizes) (p : Plan) (fs : List (List ℕ)) (xs : List ℕ) → p ≡ plan_of z → InRange z → length fs ≡ z.files → Short z fs z.files → Laid z p fs p.files xs → Bytes xs →
+pub holds_by : (z : Sizes) (p : Shape) (fs : List (List ℕ)) (xs : List ℕ) → p ≡ plan_of z → InRange z → length fs ≡ z.files → Short z fs z.files → Laid z p fs p.files xs → Bytes xs →
     Holds z (blocks xs) fs
-holds_by z p fs xs e r n short laid bytes = laid_holds z fs xs r n short (subst (λ (q : Plan). Laid z q fs q.files xs) e laid) bytes
+holds_by z p fs xs e r n short laid bytes = laid_holds z fs xs r n short (subst (λ (q : Shape). Laid z q fs q.files xs) e laid) bytes
 
-pub planned : (z : Sizes) (p : Plan) (fs : List (List ℕ)) (n : ℕ) → p ≡ plan_of z → InRange z → n ≡ image_length z → length fs ≡ z.files → Short z fs z.files → Planned p fs n
-planned z p fs n e r s c o = subst (λ (q : Plan). Planned q fs n) (sym e) (record { fit = fits z r; size = s; count = c; short = o })
+pub planned : (z : Sizes) (p : Shape) (fs : List (List ℕ)) (n : ℕ) → p ≡ plan_of z → InRange z → n ≡ image_length z → length fs ≡ z.files → Short z fs z.files → Planned p fs n
+planned z p fs n e r s c o = subst (λ (q : Shape). Planned q fs n) (sym e) (record { fit = fits z r; size = s; count = c; short = o })

@@ -15,8 +15,7 @@ use Rattle.turns.specs.declared.sizes.SizeName.{SizeName}
 use Rattle.turns.specs.declared.sizes.SizeName.TheVariants.{Processes, Opens, Pipes, Handles, Memory, Pipe, File, Files, Screens, Turn}
 use Rattle.turns.specs.declared.vocabulary.Sizes.{Sizes}
 use Rattle.disc.specs.Blocks.{Disc, at, blocks}
-use Rattle.disc.specs.Layout.{plan_of, head_at, room, current, header, current_header, length_in, Sound}
-use Rattle.disc.specs.declared.layout.Plan.{Plan}
+use Rattle.disc.specs.Layout.{Shape, plan_of, head_at, room, current, header, current_header, length_in, Sound}
 use Rattle.disc.specs.Check.{named, sizes_in, between, in_range, first_out, too_long, wrong, first_wrong, frames_for, length_refusal, name_refusal, size_refusal, block_refusal, frame_refusal, first_of, disc_sizes, disc_refusal, refusal_of, TakenBytes, Enough}
 use Rattle.disc.specs.declared.check.Refusal.{Refusal}
 use Rattle.disc.specs.declared.check.Refusal.TheVariants.{Length, Name, Block, Frames}
@@ -119,19 +118,19 @@ lowest_all test n h =
     (cases_lt (lowest test n) n)
 
 -- lengths
-too_long_none : (p : Plan) (b : List ℕ) → ((f : ℕ) → f < p.files → word_at b (4 * f) ≤ p.size) → too_long p b ≡ false
+too_long_none : (p : Shape) (b : List ℕ) → ((f : ℕ) → f < p.files → word_at b (4 * f) ≤ p.size) → too_long p b ≡ false
 unfolding too_long
 too_long_none p b h =
     let e = lowest_all (λ f. ltb p.size (word_at b (4 * f))) p.files (λ f l. le-ltb p.size (word_at b (4 * f)) (h f l)) in
     any_range (λ f. ltb p.size (word_at b (4 * f))) p.files ∙ le-ltb _ _ (omega arith)
 
-not_too_long : (p : Plan) (b : List ℕ) → too_long p b ≡ false → (f : ℕ) → f < p.files → word_at b (4 * f) ≤ p.size
+not_too_long : (p : Shape) (b : List ℕ) → too_long p b ≡ false → (f : ℕ) → f < p.files → word_at b (4 * f) ≤ p.size
 unfolding too_long
 not_too_long p b e f l =
     let test = λ (f : ℕ). ltb p.size (word_at b (4 * f)) in ltb-false p.size (word_at b (4 * f)) (some_none test p.files f l (sym (any_range test p.files) ∙ e))
 
 -- the lowest block that is wrong
-module _ (p : Plan) (d : Disc) (k : ℕ) (one : 1 ≤ p.head) (head : k ≡ head_at p (current d)) where
+module _ (p : Shape) (d : Disc) (k : ℕ) (one : 1 ≤ p.head) (head : k ≡ head_at p (current d)) where
   head_low : k + p.head ≤ room p
   head_low = rw head (below_two (λ c. head_at p c + p.head ≤ room p) (omega arith) (omega arith) (current d) (current_two d))
 

@@ -9,8 +9,7 @@ use Rattle.turns.specs.declared.sizes.SizeName.{SizeName}
 use Rattle.turns.specs.declared.sizes.SizeName.TheVariants.{Processes, Opens, Pipes, Handles, Memory, Pipe, File, Files, Screens, Turn}
 use Rattle.turns.specs.declared.vocabulary.Sizes.{Sizes}
 use Rattle.disc.specs.Blocks.{Disc, at, blocks, Whole}
-use Rattle.disc.specs.Layout.{plan_of, head_at, room, current, current_header, files_on, Sound}
-use Rattle.disc.specs.declared.layout.Plan.{Plan}
+use Rattle.disc.specs.Layout.{Shape, plan_of, head_at, room, current, current_header, files_on, Sound}
 use Rattle.disc.specs.declared.check.Refusal.{Refusal}
 use Rattle.disc.specs.declared.check.Refusal.TheVariants.{Length, Name, Size, Block, Frames, Event}
 
@@ -84,15 +83,15 @@ unfoldable pub first_out : Sizes → Option SizeName
 first_out z = find (λ name. not (in_range name z)) all_names
 
 -- FILES. A block of lengths in which one is above the size of a file
-unfoldable pub too_long : Plan → List ℕ → Bool
+unfoldable pub too_long : Shape → List ℕ → Bool
 too_long p b = list_any (λ f. nat_lt p.size (word_at b (4 * f))) (range_with_len 0 p.files)
 
 -- a block that is not as the layout says: it is missing, or it is the block of lengths of the header that counts, and one of them is too long
-unfoldable pub wrong : Plan → Disc → ℕ → Bool
+unfoldable pub wrong : Shape → Disc → ℕ → Bool
 wrong p d i = nat_le (length d) i || (i == head_at p (current d) && too_long p (at d i))
 
 -- the lowest of them, or how many blocks there have to be
-unfoldable pub first_wrong : Plan → Disc → ℕ
+unfoldable pub first_wrong : Shape → Disc → ℕ
 first_wrong p d = lowest (wrong p d) (room p)
 
 -- FRAMES: how many are needed

@@ -3,10 +3,12 @@ ghost use Rattle.std.specs.Prelude.{◌≡◌, ◌+◌, ◌*◌, ◌/◌, ◌%�
 ghost use Rattle.std.specs.Result.{result_err};
 ghost use Rattle.turns.specs.Ranges.{InRange};
 ghost use Rattle.disc.specs.Blocks.{at, blocks};
-ghost use Rattle.disc.specs.Layout.{room, Fit};
+ghost use Rattle.disc.specs.Layout.{room};
+ghost use Rattle.disc.specs.Plans.{shape};
 ghost use Rattle.disc.specs.Check.{number, refused_at, refusal_words, in_range, named, disc_sizes, first_out, too_long, first_wrong, frames_for, length_refusal, name_refusal, size_refusal, block_refusal, frame_refusal, disc_refusal, refusal_of, TakenBytes, Enough};
 
-use crate::layout::{Plan, current_of};
+use crate::layout::current_of;
+use crate::plan::Plan;
 use std::fmt;
 use turns::sizes::SizeName;
 use turns::vocabulary::Sizes;
@@ -164,8 +166,7 @@ fn check_sizes(z: Sizes) -> Result<(), Refusal>
 #[tactic(auto, unfolding(crate::specs::Check::too_long))]
 fn is_too_long(lengths: &[u8], plan: Plan) -> bool
     requires whole { length lengths.now ≡ 512 }
-    requires fit { Fit plan }
-    ensures { result ≡ too_long plan lengths.now }
+    ensures { result ≡ too_long (shape plan) lengths.now }
 {
     (0..plan.files).any(|f| octets::word(lengths, 4 * f) as usize > plan.size)
 }
@@ -174,8 +175,7 @@ fn is_too_long(lengths: &[u8], plan: Plan) -> bool
 fn check_blocks(disc: &[u8], plan: Plan) -> Result<(), Refusal>
     requires least { 1024 ≤ length disc.now }
     requires most { length disc.now ≤ 67108864 }
-    requires fit { Fit plan }
-    ensures { block_refusal (room plan) (first_wrong plan (blocks disc.now)) ≡ result_err result }
+    ensures { block_refusal (room (shape plan)) (first_wrong (shape plan) (blocks disc.now)) ≡ result_err result }
 {
     let first = plan.head_at(current_of(disc));
     let count = disc.len() / 512;

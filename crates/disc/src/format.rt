@@ -4,12 +4,13 @@ ghost use Rattle.octets.specs.Words.{word_at};
 ghost use Rattle.turns.specs.Ranges.{InRange, Fits};
 ghost use Rattle.turns.specs.declared.sizes.SizeName.{SizeName as NameOfSize};
 ghost use Rattle.disc.specs.Blocks.{blocks};
-ghost use Rattle.disc.specs.Layout.{plan_of, Fit, data_at, room};
+ghost use Rattle.disc.specs.Layout.{plan_of, data_at, room};
+ghost use Rattle.disc.specs.Plans.{shape};
 ghost use Rattle.disc.specs.Check.{named, sizes_in, first_out, Holds};
 ghost use Rattle.disc.specs.Format.{image_length, Short, Counted, Misfits, Planned, Laid, EveryList, HeldFits};
 
 use crate::check::first_out;
-use crate::layout::Plan;
+use crate::plan::Plan;
 use crate::read::content;
 use turns::sizes::SizeName;
 use turns::vocabulary::Sizes;
@@ -48,9 +49,9 @@ fn first_long(sizes: Sizes, files: &[Vec<u8>]) -> Option<usize>
 
 // Whether the files fit, on an image of `len` bytes.
 fn plan_for(len: usize, sizes: Sizes, files: &[Vec<u8>]) -> Result<Plan, Misfit>
-    ensures value { MatchResult result (λ p. (p ≡ plan_of sizes) × (len ≡ image_length sizes)) (λ e. Misfits sizes (map vec_items files.now) len e) }
+    ensures value { MatchResult result (λ p. (shape p ≡ plan_of sizes) × (len ≡ image_length sizes)) (λ e. Misfits sizes (map vec_items files.now) len e) }
     ensures fits { OnOk result (Counted sizes (map vec_items files.now) × Short sizes (map vec_items files.now) sizes.files) }
-    ensures plan { IfOk result (λ p. Planned p (map vec_items files.now) len) }
+    ensures plan { IfOk result (λ p. Planned (shape p) (map vec_items files.now) len) }
 {
     let size = image_size(sizes)?;
     if files.len() != sizes.files as usize {
@@ -101,24 +102,22 @@ fn put_sizes(image: &mut [u8], z: Sizes)
 
 // The byte at which copy A of file f begins.
 fn copy_at(plan: Plan, f: usize) -> usize
-    requires fit { Fit plan }
     requires file { f < plan.files }
-    ensures value { result ≡ 512 * (data_at plan + f * plan.each) }
-    ensures low { 512 * data_at plan ≤ result }
-    ensures within { result + plan.size ≤ 512 * room plan }
+    ensures value { result ≡ 512 * (data_at (shape plan) + f * plan.each) }
+    ensures low { 512 * data_at (shape plan) ≤ result }
+    ensures within { result + plan.size ≤ 512 * room (shape plan) }
 {
     512 * (2 + 2 * plan.head + f * plan.each)
 }
 
 // File f of an image whose header A counts, and all whose copies A count: its length goes into the header, and its bytes into its blocks, which lie together.
 fn put_file(image: &mut [u8], plan: Plan, f: usize, bytes: &[u8])
-    requires large { 512 * room plan ≤ length image.old }
-    requires fit { Fit plan }
+    requires large { 512 * room (shape plan) ≤ length image.old }
     requires file { f < plan.files }
     requires short { length bytes.now ≤ plan.size }
     ensures long { word_at image.new (1024 + 4 * f) ≡ length bytes.now }
-    ensures held { (k : ℕ) → k < length bytes.now → slice_index image.new (512 * (data_at plan + f * plan.each) + k) ≡ slice_index bytes.now k }
-    ensures others { (k : ℕ) → (k < 1024 + 4 * f) ⊎ (1028 + 4 * f ≤ k) → (k < 512 * (data_at plan + f * plan.each)) ⊎ (512 * (data_at plan + f * plan.each) + length bytes.now ≤ k) → slice_index image.new k ≡ slice_index image.old k }
+    ensures held { (k : ℕ) → k < length bytes.now → slice_index image.new (512 * (data_at (shape plan) + f * plan.each) + k) ≡ slice_index bytes.now k }
+    ensures others { (k : ℕ) → (k < 1024 + 4 * f) ⊎ (1028 + 4 * f ≤ k) → (k < 512 * (data_at (shape plan) + f * plan.each)) ⊎ (512 * (data_at (shape plan) + f * plan.each) + length bytes.now ≤ k) → slice_index image.new k ≡ slice_index image.old k }
 {
     octets::put_word(image, 1024 + 4 * f, bytes.len() as u32);
     let at = copy_at(plan, f);
@@ -127,8 +126,8 @@ fn put_file(image: &mut [u8], plan: Plan, f: usize, bytes: &[u8])
 
 // The files are put onto an image that is bare but for block 0.
 fn put_files(image: &mut [u8], plan: Plan, files: &[Vec<u8>])
-    requires planned { Planned plan (map vec_items files.now) (length image.old) }
-    ensures { (z : Sizes) → Laid z plan (map vec_items files.now) 0 image.old → Laid z plan (map vec_items files.now) plan.files image.new }
+    requires planned { Planned (shape plan) (map vec_items files.now) (length image.old) }
+    ensures { (z : Sizes) → Laid z (shape plan) (map vec_items files.now) 0 image.old → Laid z (shape plan) (map vec_items files.now) plan.files image.new }
 {
     for (f, file) in files.iter().enumerate() {
         put_file(image, plan, f, file);

@@ -1,5 +1,6 @@
 use Rattle.std.proofs.Common.{vec_items, sym, ◌∙◌, arith}
 use Rattle.std.proofs.lemmas.List.{length-map}
+use Rattle.disc.specs.Plans.{shape}
 use Rattle.disc.proofs.Images.{planned, long_at, long_nowhere}
 use Rattle.disc.proofs.format.plan_for.Goals as goal
 
@@ -27,4 +28,4 @@ returns-clause-plan c =
     let n = length-map c.args.files.now vec_items in
     let e = c.in_ok-size.ensures.1 in
     let s = long_nowhere c.args.sizes vec_items c.args.files.now (sym c.first_long.ensures ∙ c.in_default.is) in
-    planned c.args.sizes c.new.result _ c.args.len c.new.ensures.value c.in_ok-size.ensures.0 (omega arith) (omega arith) (λ f l. s f (omega arith))
+    planned c.args.sizes (shape c.new.result) _ c.args.len c.new.ensures c.in_ok-size.ensures.0 (omega arith) (omega arith) (λ f l. s f (omega arith))

@@ -6,6 +6,7 @@ pub returns : goal.returns
 returns c =
     let l = c.copy_at-at.ensures.low in
     let w = c.copy_at-at.ensures.within in
+    let fit = c.args.plan.fit in
     let r = filed_at c.args.image.now c.put_word.new.bytes c.copy_from_slice.new.self c.args.bytes.now c.copy_at-at.result _ _ c.args.f _
     c.copy_at-at.ensures.value c.put_word.ensures.row c.put_word.ensures.read c.copy_from_slice.ensures.after (omega arith) (omega arith) (omega arith) (omega arith) in
     record { long = r.0; held = r.1; others = r.2 }

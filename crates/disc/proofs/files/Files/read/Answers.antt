@@ -1,9 +1,9 @@
 use Rattle.std.proofs.Common.{◌<◌, ◌≢◌, length, arith, get_or-set_other, get_or-set_same, below_more}
-use Rattle.disc.specs.Blocks.{blocks}
-use Rattle.disc.specs.Layout.{file_in}
+use Rattle.disc.specs.Plans.{shape}
+use Rattle.disc.specs.Lent.{header_of, file_of}
 use Rattle.disc.proofs.Places.{file_length}
 use Rattle.disc.proofs.Held.{stretch}
-use Rattle.disc.proofs.read.read_by.Goals as goal
+use Rattle.disc.proofs.files.Files.read.Goals as goal
 
 pub loop-k-preserved : goal.loop-k-preserved
 loop-k-preserved c =
@@ -12,7 +12,8 @@ loop-k-preserved c =
 
 pub returns : goal.returns
 returns c =
-    let d = c.requires.fit.deep in
-    let n = file_length c.args.plan (blocks c.args.head.now) c.args.disc.now c.args.f c.requires.file c.requires.large (omega arith) in
-    stretch (file_in c.args.plan (blocks c.args.head.now) (blocks c.args.disc.now) c.args.f) c.loop-k.out (length c.args.out.now) c.args.from (omega arith)
+    let s = c.args.self.now in
+    let d = s.plan.fit.deep in
+    let n = file_length (shape s.plan) (header_of s) s.disc.now c.args.f c.requires.file s.large (omega arith) in
+    stretch (file_of s c.args.f) c.loop-k.out (length c.args.out.now) c.args.from (omega arith)
     (omega arith) (λ k l. c.loop-k.invariant k (omega arith))
