@@ -1,8 +1,8 @@
 -- The files that a taken disc holds, as the code reads them. Assumes nothing.
-use Rattle.std.proofs.Common.{◌≡◌, ℕ, zero, suc, ◌+◌, ◌*◌, ◌<◌, ◌≤◌, List, [], length, get_or, take, drop, sym, ap, ◌∙◌, subst, ⊎_elim, arith}
-use Rattle.std.specs.List.{range_with_len, flat_map}
+use Rattle.std.proofs.Common.{◌≡◌, ℕ, zero, suc, true, false, eqb, min, ◌-◌, refl, ◌+◌, ◌*◌, ◌<◌, ◌≤◌, List, [], length, get_or, take, drop, sym, ap, ◌∙◌, subst, ⊎_elim, arith}
+use Rattle.std.specs.List.{range_with_len, flat_map, list_all}
 use Rattle.std.proofs.lemmas.List.{ext_get_or, length-take, length-drop, get_or-take, get_or-drop, get_or_past}
-use Rattle.std.proofs.lemmas.Bool.{cases_lt}
+use Rattle.std.proofs.lemmas.Bool.{cases_eq, cases_lt, both_ways, and_parts, and_from, eqb-true, eq-eqb}
 use Rattle.octets.specs.Rows.{Bytes}
 use Rattle.octets.proofs.Over.{bytes_take, bytes_append}
 use Rattle.std.proofs.lemmas.List.FromFn.{get_or-map-range_with_len, length-map-range_with_len, fill_by_all}
@@ -69,6 +69,28 @@ opened z xs f hs p e t l =
 -- a file that is as long as some bytes, and has the same in each of its blocks
 pub same_file : (file bytes : List ℕ) (n : ℕ) → length file ≡ length bytes → length bytes ≤ n → ((k : ℕ) → k < n → k < length bytes → get_or file k 0 ≡ get_or bytes k 0) → file ≡ bytes
 same_file file bytes n e l h = ext_get_or 0 file bytes e (λ k u. h k (omega arith) (omega arith))
+
+-- what is asked of a row of places, place by place
+all_at : (file bytes : List ℕ) (a n : ℕ) → list_all (λ at. eqb (get_or file at 0) (get_or bytes at 0)) (range_with_len a n) ≡ true → (k : ℕ) → a ≤ k → k < a + n → get_or file k 0 ≡ get_or bytes k 0
+all_at file bytes a zero e k l u = absurd (omega arith)
+all_at file bytes a (suc n) e k l u =
+    let p = and_parts (eqb (get_or file a 0) (get_or bytes a 0)) _ e in
+    ⊎_elim (λ (q : k ≡ a). rw q (eqb-true (get_or file a 0) (get_or bytes a 0) p.0)) (λ q. all_at file bytes (a + 1) n p.1 k (omega arith) (omega arith)) (cases_eq k a)
+
+all_same : (bytes : List ℕ) (a n : ℕ) → list_all (λ at. eqb (get_or bytes at 0) (get_or bytes at 0)) (range_with_len a n) ≡ true
+all_same bytes a zero = refl
+all_same bytes a (suc n) = and_from (eqb (get_or bytes a 0) (get_or bytes a 0)) _ (eq-eqb (get_or bytes a 0) (get_or bytes a 0) refl) (all_same bytes (a + 1) n)
+
+-- block b of a file as the code compares it: up to the end of the block or of the bytes
+module _ (file bytes : List ℕ) (b : ℕ) where
+  pub block_more : list_all (λ at. eqb (get_or file at 0) (get_or bytes at 0)) (range_with_len (512 * b) (min (length bytes) (512 * b + 512) - 512 * b)) ≡ true →
+      ((k : ℕ) → k < 512 * b → k < length bytes → get_or file k 0 ≡ get_or bytes k 0) → (k : ℕ) → k < 512 * (b + 1) → k < length bytes → get_or file k 0 ≡ get_or bytes k 0
+  block_more e h k l u =
+      ⊎_elim (λ (q : k < 512 * b). h k q u)
+      (λ (q : 512 * b ≤ k). all_at file bytes (512 * b) (min (length bytes) (512 * b + 512) - 512 * b) e k q (omega arith)) (cases_lt k (512 * b))
+
+  pub block_differs : list_all (λ at. eqb (get_or file at 0) (get_or bytes at 0)) (range_with_len (512 * b) (min (length bytes) (512 * b + 512) - 512 * b)) ≡ false → file ≡ bytes → ⊥
+  block_differs e q = both_ways _ e (subst (λ (x : List ℕ). list_all (λ at. eqb (get_or x at 0) (get_or bytes at 0)) (range_with_len (512 * b) (min (length bytes) (512 * b + 512) - 512 * b)) ≡ true) (sym q) (all_same bytes (512 * b) _))
 
 -- all files of a disc
 pub holds_if : (z : Sizes) (xs : List ℕ) (p : Shape) (hs : List ℕ) (fs : List (List ℕ)) → p ≡ plan_of z → Taken z (blocks xs) → blocks hs ≡ current_header p (blocks xs) → length fs ≡ z.files →

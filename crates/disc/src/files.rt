@@ -17,7 +17,8 @@ pub struct Files<'a> {
 }
 
 impl<'a> Files<'a> {
-    ghost use Rattle.std.specs.Prelude.{◌≡◌, ℕ, ◌+◌, ◌*◌, ◌<◌, ◌≤◌, true, false, [], map, length, take, drop, vec_items, ◌≢◌, slice_index, slice_index_or};
+    ghost use Rattle.std.specs.List.{list_all, range_with_len};
+    ghost use Rattle.std.specs.Prelude.{◌≡◌, ℕ, ◌+◌, ◌-◌, ◌==◌, min, ◌*◌, ◌<◌, ◌≤◌, true, false, [], map, length, take, drop, vec_items, ◌≢◌, slice_index, slice_index_or};
     ghost use Rattle.disc.specs.Layout.{length_in};
     ghost use Rattle.disc.specs.Lent.{header_of, file_of};
 
@@ -51,16 +52,9 @@ impl<'a> Files<'a> {
         requires block { b < self.now.plan.each }
         requires long { length_in (header_of self.now) f ≡ length bytes.now }
         requires sound { length bytes.now ≤ self.now.plan.size }
-        ensures yes { result ≡ true → (k : ℕ) → 512 * b ≤ k → k < 512 * b + 512 → k < length bytes.now → slice_index (file_of self.now f) k ≡ slice_index bytes.now k }
-        ensures no { result ≡ false → file_of self.now f ≢ bytes.now }
+        ensures { result ≡ list_all (λ at. slice_index (file_of self.now f) at == slice_index bytes.now at) (range_with_len (512 * b) (min (length bytes.now) (512 * b + 512) - 512 * b)) }
     {
-        for i in 0..512 {
-            let at = 512 * b + i;
-            if at < bytes.len() && self.byte_at(f, at) != bytes[at] {
-                return false;
-            }
-        }
-        true
+        (512 * b..bytes.len().min(512 * b + 512)).all(|at| self.byte_at(f, at) == bytes[at])
     }
 
     // Whether the files are just these: their lengths, and block by block what they hold where the header's bits say, up to the first that differs.
