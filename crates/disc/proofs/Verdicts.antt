@@ -16,9 +16,9 @@ use Rattle.turns.specs.declared.sizes.SizeName.TheVariants.{Processes, Opens, Pi
 use Rattle.turns.specs.declared.vocabulary.Sizes.{Sizes}
 use Rattle.disc.specs.Blocks.{Disc, at, blocks}
 use Rattle.disc.specs.Layout.{Shape, plan_of, head_at, room, current, header, current_header, length_in, Sound}
-use Rattle.disc.specs.Check.{named, sizes_in, between, in_range, first_out, too_long, wrong, first_wrong, frames_for, length_refusal, name_refusal, size_refusal, block_refusal, frame_refusal, first_of, disc_sizes, disc_refusal, refusal_of, TakenBytes, Enough}
+use Rattle.disc.specs.Check.{named, sizes_in, between, in_range, first_out, too_long, wrong, first_wrong, frames_for, length_refusal, name_refusal, size_refusal, block_refusal, frame_refusal, first_of, disc_sizes, disc_refusal, refusal_of, TakenBytes}
 use Rattle.disc.specs.declared.check.Refusal.{Refusal}
-use Rattle.disc.specs.declared.check.Refusal.TheVariants.{Length, Name, Block, Frames}
+use Rattle.disc.specs.declared.check.Refusal.TheVariants.{Length, Name, Block}
 use Rattle.disc.proofs.Cuts.{length_blocks, get_or_blocks, blocks_whole}
 use Rattle.disc.proofs.Places.{first_byte, first_word, below_two, current_two}
 
@@ -225,18 +225,9 @@ length_passed n e l m =
 name_passed : (b : List ℕ) → name_refusal b ≡ None → named b ≡ true
 name_passed b e = ⊎_elim (λ t. t) (λ f. absurd (let z : ◌≡◌ {A = ℕ} 0 1 = cc (cond-false (named b) None (Some Name) f) in omega arith)) (cases_Bool (named b))
 
-size_passed : (o : Option SizeName) → size_refusal o ≡ None → o ≡ None
-size_passed None e = refl
-size_passed (Some i) e = let z : ◌≡◌ {A = ℕ} 0 1 = cc in absurd (omega arith)
-
 block_passed : (n b : ℕ) → block_refusal n b ≡ None → n ≤ b
 block_passed n b e =
     ⊎_elim (λ (l : b < n). absurd (let z : ◌≡◌ {A = ℕ} 0 1 = cc (cond-true (ltb b n) (Some (Block (512 * b))) None (lt-ltb b n l)) in omega arith)) (λ (l : n ≤ b). l) (cases_lt b n)
-
-pub frames_passed : (n lent : ℕ) → frame_refusal n lent ≡ None → n ≤ lent / 4096
-frames_passed n lent e =
-    ⊎_elim (λ (l : lent / 4096 < n). absurd (let z : ◌≡◌ {A = ℕ} 0 1 = cc (cond-true (ltb (lent / 4096) n) (Some (Frames n)) None (lt-ltb (lent / 4096) n l)) in omega arith)) (λ (l : n ≤ lent / 4096). l)
-    (cases_lt (lent / 4096) n)
 
 -- the first of the refusals
 module _ (xs : List ℕ) (e : Refusal) where
@@ -313,7 +304,3 @@ refused_frames xs lent z e a b c = rw (a, b, c)
 pub passed_frames : (xs : List ℕ) (lent : ℕ) (z : Sizes) → disc_refusal xs ≡ None → disc_sizes xs ≡ z → frame_refusal (frames_for z) lent ≡ None → refusal_of xs lent ≡ None
 unfolding refusal_of first_of
 passed_frames xs lent z a b c = rw (a, b, c)
-
-pub never_few : (z : Sizes) (lent : ℕ) (e : Refusal) → frame_refusal (frames_for z) lent ≡ Some e → Enough z lent → ⊥
-never_few z lent e r h =
-    let o : ◌≡◌ {A = ℕ} 0 1 = cc (cond-false (ltb (lent / 4096) (frames_for z)) (Some (Frames (frames_for z))) None (le-ltb (lent / 4096) (frames_for z) h)) in omega arith

@@ -1,14 +1,9 @@
-use Rattle.std.proofs.Common.{◌<◌, ◌≢◌, length, arith, get_or-set_other, get_or-set_same, below_more}
+use Rattle.std.proofs.Common.{length, arith}
 use Rattle.disc.specs.Plans.{shape}
 use Rattle.disc.specs.Lent.{header_of, file_of}
 use Rattle.disc.proofs.Places.{file_length}
 use Rattle.disc.proofs.Held.{stretch}
 use Rattle.disc.proofs.files.Files.read.Goals as goal
-
-pub loop-k-preserved : goal.loop-k-preserved
-loop-k-preserved c =
-    below_more _ _ (λ i h. let ne : i ≢ c.loop-k.k = omega arith in rw get_or-set_other (c.loop-k.invariant i h))
-    (let lt : c.loop-k.k < length c.loop-k.out = omega arith in rw get_or-set_same c.byte_at.ensures)
 
 pub returns : goal.returns
 returns c =
