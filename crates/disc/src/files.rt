@@ -5,13 +5,13 @@ ghost use Rattle.disc.specs.Plans.{shape};
 
 use crate::layout::{copy_of, length_of};
 use crate::plan::Plan;
-use crate::read::content;
 
 #[derive(Clone, Copy)]
 pub struct Files<'a> {
     pub disc: &'a [u8],
     pub plan: Plan,
     pub head: &'a [u8],
+    // the disc has all blocks of the plan, and the header all of its own
     pub ghost large: { 512 * room (shape plan) ≤ length disc.now },
     pub ghost size: { length head.now ≡ 512 * plan.head },
 }
@@ -64,9 +64,10 @@ impl<'a> Files<'a> {
         ensures yes { result ≡ true → (f : ℕ) → f < self.now.plan.files → file_of self.now f ≡ slice_index_or (map vec_items files.now) f [] }
         ensures no { result ≡ false → ((f : ℕ) → f < self.now.plan.files → file_of self.now f ≡ slice_index_or (map vec_items files.now) f []) → ⊥ }
     {
+        // Nested loops left by a label: a form that this repository is to show.
         let mut same = true;
-        'files: for f in 0..self.plan.files {
-            let bytes = content(files, f);
+        'files: for (f, file) in files.iter().enumerate() {
+            let bytes = file.as_slice();
             if length_of(self.head, f) != bytes.len() {
                 same = false;
                 break 'files;

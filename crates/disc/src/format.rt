@@ -11,7 +11,6 @@ ghost use Rattle.disc.specs.Format.{image_length, Short, Counted, Misfits, Plann
 
 use crate::check::first_out;
 use crate::plan::Plan;
-use crate::read::content;
 use turns::sizes::SizeName;
 use turns::vocabulary::Sizes;
 

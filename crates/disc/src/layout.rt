@@ -6,7 +6,7 @@ ghost use Rattle.disc.specs.Plans.{shape};
 
 use crate::plan::Plan;
 
-// Which header counts: 0 or 1.
+// Which header counts: 0 or 1. A number and no enum: it is the bit on the disc, and places are computed from it.
 pub fn current_of(disc: &[u8]) -> usize
     requires within { 1024 ≤ length disc.now }
     ensures value { result ≡ current (blocks disc.now) }

@@ -13,6 +13,7 @@ pub struct Plan {
     pub each: usize,
     // how many blocks a header has
     pub head: usize,
+    // there is a place for each length, each bit and each byte, and there are no more blocks than any sizes need
     pub ghost fit: { Fit (record { files = files; size = size; each = each; head = head }) },
 }
 

@@ -32,14 +32,6 @@ pub fn read_file(disc: &[u8], sizes: Sizes, f: usize, from: usize, out: &mut [u8
     Files { disc, plan, head }.read(f, from, out);
 }
 
-// What is given for file f.
-pub(crate) fn content(files: &[Vec<u8>], f: usize) -> &[u8]
-    requires within { f < length files.now }
-    ensures { result.now ≡ slice_index_or (map vec_items files.now) f [] }
-{
-    files[f].as_slice()
-}
-
 // Whether a disc holds just these files.
 pub fn holds_files(disc: &[u8], sizes: Sizes, files: &[Vec<u8>]) -> bool
     requires taken { Taken sizes (blocks disc.now) }
