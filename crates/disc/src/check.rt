@@ -31,7 +31,7 @@ pub enum Refusal {
 }
 
 impl Refusal {
-    // The number under which it is reported.
+    // The number under which it is reported: the report's format has numbers.
     pub fn number(self) -> u8
         ensures { result ≡ number self }
     {
@@ -132,7 +132,7 @@ fn is_in_range(name: SizeName, z: Sizes) -> bool
     }
 }
 
-// The first size that is not in its range.
+// The first size that is not in its range; alone, since a proof knows what a chain gave only where it is returned.
 #[tactic(auto, unfolding(crate::specs::Check::first_out))]
 fn find_out(z: Sizes) -> Option<SizeName>
     ensures { result ≡ first_out z }

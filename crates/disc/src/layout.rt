@@ -35,7 +35,7 @@ pub fn length_of(head: &[u8], f: usize) -> usize
     octets::word(head, 4 * f) as usize
 }
 
-// Which copy of block j of the files counts by a header: 0 or 1.
+// Which copy of block j of the files counts by a header: 0 or 1, the bit in the header.
 pub fn copy_of(head: &[u8], j: usize) -> usize
     requires bits { 512 * (2 + j / 4096) ≤ length head.now }
     ensures value { result ≡ copy_in (blocks head.now) j }
