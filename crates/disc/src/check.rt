@@ -9,6 +9,7 @@ ghost use Rattle.disc.specs.Check.{number, refused_at, refusal_words, in_range, 
 
 use crate::layout::current_of;
 use crate::plan::Plan;
+use octets::Number;
 use std::fmt;
 use turns::sizes::SizeName;
 use turns::vocabulary::Sizes;
@@ -100,16 +101,16 @@ fn sizes_of(disc: &[u8]) -> Sizes
     ensures { result ≡ disc_sizes disc.now }
 {
     Sizes {
-        processes: octets::word(disc, 4),
-        opens: octets::word(disc, 8),
-        pipes: octets::word(disc, 12),
-        handles: octets::word(disc, 16),
-        memory: octets::word(disc, 20),
-        pipe: octets::word(disc, 24),
-        file: octets::word(disc, 28),
-        files: octets::word(disc, 32),
-        screens: octets::word(disc, 36),
-        turn: octets::word(disc, 40),
+        processes: u32::read(disc, 4),
+        opens: u32::read(disc, 8),
+        pipes: u32::read(disc, 12),
+        handles: u32::read(disc, 16),
+        memory: u32::read(disc, 20),
+        pipe: u32::read(disc, 24),
+        file: u32::read(disc, 28),
+        files: u32::read(disc, 32),
+        screens: u32::read(disc, 36),
+        turn: u32::read(disc, 40),
     }
 }
 
@@ -168,7 +169,7 @@ fn is_too_long(lengths: &[u8], plan: Plan) -> bool
     requires whole { length lengths.now ≡ 512 }
     ensures { result ≡ too_long (shape plan) lengths.now }
 {
-    (0..plan.files).any(|f| octets::word(lengths, 4 * f) as usize > plan.size)
+    (0..plan.files).any(|f| u32::read(lengths, 4 * f) as usize > plan.size)
 }
 
 // The lowest block that is not as the layout says: lengths are looked at first, since a header lies below what may be missing.

@@ -11,6 +11,7 @@ ghost use Rattle.disc.specs.Format.{image_length, Short, Counted, Misfits, Plann
 
 use crate::check::first_out;
 use crate::plan::Plan;
+use octets::Number;
 use turns::sizes::SizeName;
 use turns::vocabulary::Sizes;
 
@@ -72,7 +73,7 @@ fn put_words(image: &mut [u8], words: &[u32])
     ensures others { (k : ℕ) → (k < 4) ⊎ (4 + 4 * length words.now ≤ k) → slice_index image.new k ≡ slice_index image.old k }
 {
     for (i, &word) in words.iter().enumerate() {
-        octets::put_word(image, 4 + 4 * i, word);
+        word.write(image, 4 + 4 * i);
     }
 }
 
@@ -118,7 +119,7 @@ fn put_file(image: &mut [u8], plan: Plan, f: usize, bytes: &[u8])
     ensures held { (k : ℕ) → k < length bytes.now → slice_index image.new (512 * (data_at (shape plan) + f * plan.each) + k) ≡ slice_index bytes.now k }
     ensures others { (k : ℕ) → (k < 1024 + 4 * f) ⊎ (1028 + 4 * f ≤ k) → (k < 512 * (data_at (shape plan) + f * plan.each)) ⊎ (512 * (data_at (shape plan) + f * plan.each) + length bytes.now ≤ k) → slice_index image.new k ≡ slice_index image.old k }
 {
-    octets::put_word(image, 1024 + 4 * f, bytes.len() as u32);
+    (bytes.len() as u32).write(image, 1024 + 4 * f);
     let at = copy_at(plan, f);
     image[at..at + bytes.len()].copy_from_slice(bytes);
 }

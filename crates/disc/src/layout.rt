@@ -5,6 +5,7 @@ ghost use Rattle.disc.specs.Layout.{room, current, current_header, length_in, co
 ghost use Rattle.disc.specs.Plans.{shape};
 
 use crate::plan::Plan;
+use octets::Number;
 
 // Which header counts: 0 or 1. A number and no enum: it is the bit on the disc, and places are computed from it.
 pub fn current_of(disc: &[u8]) -> usize
@@ -32,7 +33,7 @@ pub fn length_of(head: &[u8], f: usize) -> usize
     ensures value { result ≡ length_in (blocks head.now) f }
     ensures within { result < 2 ^ 32 }
 {
-    octets::word(head, 4 * f) as usize
+    u32::read(head, 4 * f) as usize
 }
 
 // Which copy of block j of the files counts by a header: 0 or 1, the bit in the header.
