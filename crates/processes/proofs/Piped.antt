@@ -1,9 +1,10 @@
 -- The ends of a new pipe. Assumes nothing.
-use Rattle.std.proofs.Common.{◌≡◌, ℕ, suc, ◌+◌, ◌-◌, ◌<◌, ◌≤◌, Bool, true, false, ◌||◌, leb, List, [], length, set, Some, Option, refl, ap, ◌∙◌, subst, arith, set-set}
+use Rattle.std.specs.Prelude.{is_none}
+use Rattle.std.proofs.Common.{◌≡◌, ℕ, suc, ◌+◌, ◌-◌, ◌<◌, ◌≤◌, Bool, true, false, not, ◌||◌, leb, List, [], length, get_or, set, Some, None, Option, refl, ap, ◌∙◌, subst, arith, set-set}
 use Rattle.std.proofs.lemmas.List.{get_or-set_same}
 use Rattle.std.proofs.lemmas.Bool.{le-leb, lt-leb}
-use Rattle.octets.specs.Rows.{lowest_from}
-use Rattle.turns.specs.World.{process, nobody, free_pipe, second_open, second_handle, with_process, with_open, with_pipe, with_memory, with_handle, with_handles}
+use Rattle.octets.proofs.Lowest.{lowest_from_ge}
+use Rattle.turns.specs.World.{process, nobody, in_use, free_pipe, free_open, second_open, free_handle, second_handle, with_process, with_open, with_pipe, with_memory, with_handle, with_handles}
 use Rattle.turns.specs.World as W
 use Rattle.turns.specs.declared.vocabulary.Sizes.{Sizes}
 use Rattle.turns.specs.declared.vocabulary.End.TheVariants.{WriteEnd, ReadEnd}
@@ -13,21 +14,33 @@ use Rattle.processes.specs.declared.PipeEnds.{PipeEnds}
 use Rattle.processes.specs.declared.Tables.{Tables}
 use Rattle.processes.specs.Tabled.{Tabled, Worlds}
 use Rattle.processes.specs.Pipes.{no_room, piped}
+use Rattle.processes.specs.Looking.{one_of}
+use Rattle.processes.proofs.Seeing.{none_of}
 use Rattle.processes.proofs.Called.{or_true}
 use Rattle.processes.proofs.Standing.{tabled_memory, tabled_others}
 
 -- FINDING THEM
 
--- the second lowest, as a search from behind the lowest on finds it
-pub second_is : (test : ℕ → Bool) (n a i r : ℕ) → a ≡ i → r ≡ lowest_from test (a + 1) (n - (a + 1)) → r ≡ lowest_from test (suc i) (n - suc i)
-second_is test n a i r e f = let s : a + 1 ≡ suc i = omega arith in f ∙ ap (λ k. lowest_from test k (n - k)) s
-
 module _ (z : Sizes) (w : Worlds) (p : ℕ) where
-  pub no_opens : (k : ℕ) → k ≡ second_open core z w → z.opens ≤ k → no_room z w p ≡ true
-  no_opens k e l = rw (← e, le-leb _ _ l) (or_true _)
+  pub no_pipe : None ≡ one_of z.pipes (free_pipe core z w) → no_room z w p ≡ true
+  no_pipe e = rw (le-leb _ _ (none_of _ _ e)) refl
 
-  pub no_handles : (h : ℕ) → h ≡ second_handle z (process core w p) → z.handles ≤ h → no_room z w p ≡ true
-  no_handles h e l = rw (← e, le-leb _ _ l) (ap (λ b. leb z.pipes (free_pipe core z w) || b) (or_true _) ∙ or_true _)
+  pub no_opens : z.opens ≤ second_open core z w → no_room z w p ≡ true
+  no_opens l = rw (le-leb _ _ l) (or_true _)
+
+  pub no_handles : z.handles ≤ second_handle z (process core w p) → no_room z w p ≡ true
+  no_handles l = rw (le-leb _ _ l) (ap (λ b. leb z.pipes (free_pipe core z w) || b) (or_true _) ∙ or_true _)
+
+  -- where there is no first, there is no second
+  pub no_first_open : None ≡ one_of z.opens (free_open core z w) → z.opens ≤ second_open core z w
+  unfolding second_open
+  no_first_open e = omega (arith, none_of _ _ e, lowest_from_ge (λ k. not (in_use core w k)) (suc (free_open core z w)) (z.opens - suc (free_open core z w)))
+
+  pub no_first_handle : None ≡ one_of z.handles (free_handle z (process core w p)) → z.handles ≤ second_handle z (process core w p)
+  unfolding second_handle
+  no_first_handle e =
+      let i : ℕ = free_handle z (process core w p) in
+      omega (arith, none_of _ _ e, lowest_from_ge (λ h. is_none (get_or (process core w p).handles h None)) (suc i) (z.handles - suc i))
 
   pub enough : (j k h : ℕ) → j ≡ free_pipe core z w → k ≡ second_open core z w → h ≡ second_handle z (process core w p) → j < z.pipes → k < z.opens → h < z.handles →
       no_room z w p ≡ false

@@ -3,7 +3,7 @@ ghost use Rattle.std.specs.Prelude.{◌≡◌, ℕ, List};
 ghost use Rattle.turns.specs.Ranges.{InRange};
 ghost use Rattle.turns.specs.World.{begin};
 ghost use Rattle.rv32.specs.Act.{core};
-ghost use Rattle.processes.specs.Tabled.{Sound, Tabled};
+ghost use Rattle.processes.specs.Tabled.{Tabled};
 ghost use Rattle.processes.specs.Changes.{empty, first};
 
 use crate::{Process, Tables};
@@ -44,7 +44,6 @@ impl Tables {
     // At the start there is process 0; its handles 0, 1 and 2 lead to open thing 0, which is screen 0.
     pub fn start(sizes: Sizes) -> Tables
         requires { InRange sizes }
-        ensures sound { Sound result }
         ensures sizes { result.sizes ≡ sizes }
         ensures tabled { (files : List (List ℕ)) → Tabled result (begin core sizes files) }
     {

@@ -1,14 +1,8 @@
+use Rattle.std.proofs.Common.{arith}
+use Rattle.std.proofs.lemmas.Grind.{common_steps}
 use Rattle.turns.specs.World.{is_free}
 use Rattle.processes.proofs.Process.is_free.Goals as goal
 
-pub returns-in-Free : goal.returns-in-Free
+pub returns : goal.returns
 unfolding is_free
-returns-in-Free c = rw c.in-Free.is
-
-pub returns-in-Runs : goal.returns-in-Runs
-unfolding is_free
-returns-in-Runs c = rw c.in-Runs.is
-
-pub returns-in-Left : goal.returns-in-Left
-unfolding is_free
-returns-in-Left c = rw c.in-Left.is
+returns c = grind (arith, common_steps)

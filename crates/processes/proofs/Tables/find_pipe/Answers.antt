@@ -1,34 +1,47 @@
-use Rattle.std.proofs.Common.{arith}
-use Rattle.turns.specs.World.{free_open, second_open, free_handle, second_handle}
-use Rattle.processes.proofs.Called.{from_first}
-use Rattle.processes.proofs.Piped.{second_is, no_opens, no_handles, enough}
+use Rattle.std.proofs.Common.{sym, ◌∙◌, arith}
+use Rattle.processes.proofs.Piped.{no_pipe, no_opens, no_handles, no_first_open, no_first_handle, enough}
+use Rattle.processes.proofs.Seeing.{none_of, some_of, pipe_is, open_first, open_second, handle_first, handle_second}
 use Rattle.processes.proofs.Tables.find_pipe.Goals as goal
 
-pub returns-then-write_open-self : goal.returns-then-write_open-self
-unfolding free_open second_open
-returns-then-write_open-self c w h =
-    no_opens _ w _ _ (second_is _ _ _ _ _ (from_first _ _ _ (c.free_open-read_open.ensures.number w h)) (c.free_open-write_open.ensures.number w h)) c.if-write_open-self.true
+pub returns-in_err-pipe : goal.returns-in_err-pipe
+returns-in_err-pipe c w h = rw c.from_residual.ensures (no_pipe _ w _ (sym c.in_err-pipe.was ∙ c.free_pipe.ensures.seen ∙ pipe_is _ w h))
 
-pub returns-then-write_handle-self : goal.returns-then-write_handle-self
-unfolding free_handle second_handle
-returns-then-write_handle-self c w h =
-    no_handles _ w _ _ (second_is _ _ _ _ _ (from_first _ _ _ (c.free_handle-read_handle.ensures.number w h)) (c.free_handle-write_handle.ensures.number w h))
-    c.if-write_handle-self.true
+pub returns-in_err-read_open : goal.returns-in_err-read_open
+returns-in_err-read_open c w h =
+    rw (c.from_residual-in_err-read_open.ensures)
+    (no_opens _ w _ (no_first_open _ w c.args.p (sym c.in_err-read_open.was ∙ c.free_open.ensures.seen ∙ open_first _ w h)))
+
+pub returns-in_err-write_open : goal.returns-in_err-write_open
+returns-in_err-write_open c w h =
+    let k = some_of _ _ _ (sym c.in_ok-read_open.was ∙ c.free_open.ensures.seen ∙ open_first _ w h) in
+    rw (c.from_residual-in_err-write_open.ensures)
+    (no_opens _ w _ (none_of _ _ (sym c.in_err-write_open.was ∙ c.free_open-2.ensures.seen ∙ open_second _ w h _ k.0 k.1)))
+
+pub returns-in_err-read_handle : goal.returns-in_err-read_handle
+returns-in_err-read_handle c w h =
+    rw (c.from_residual-in_err-read_handle.ensures)
+    (no_handles _ w _ (no_first_handle _ w _ (sym c.in_err-read_handle.was ∙ c.free_handle.ensures.seen ∙ handle_first _ w h _)))
+
+pub returns-in_err-write_handle : goal.returns-in_err-write_handle
+returns-in_err-write_handle c w h =
+    let k = some_of _ _ _ (sym c.in_ok-read_handle.was ∙ c.free_handle.ensures.seen ∙ handle_first _ w h _) in
+    rw (c.from_residual-in_err-write_handle.ensures)
+    (no_handles _ w _ (none_of _ _ (sym c.in_err-write_handle.was ∙ c.free_handle-2.ensures.seen ∙ handle_second _ w h _ _ k.0 k.1)))
 
 pub returns : goal.returns
-unfolding free_open second_open free_handle second_handle
 returns c w h =
-    let k = from_first _ _ _ (c.free_open-read_open.ensures.number w h) in
-    let l = second_is _ _ _ _ _ k (c.free_open-write_open.ensures.number w h) in
-    let i = from_first _ _ _ (c.free_handle-read_handle.ensures.number w h) in
-    let j = second_is _ _ _ _ _ i (c.free_handle-write_handle.ensures.number w h) in
+    let j = some_of _ _ _ (sym c.in_ok-pipe.was ∙ c.free_pipe.ensures.seen ∙ pipe_is _ w h) in
+    let k = some_of _ _ _ (sym c.in_ok-read_open.was ∙ c.free_open.ensures.seen ∙ open_first _ w h) in
+    let l = some_of _ _ _ (sym c.in_ok-write_open.was ∙ c.free_open-2.ensures.seen ∙ open_second _ w h _ k.0 k.1) in
+    let m = some_of _ _ _ (sym c.in_ok-read_handle.was ∙ c.free_handle.ensures.seen ∙ handle_first _ w h _) in
+    let n = some_of _ _ _ (sym c.in_ok-write_handle.was ∙ c.free_handle-2.ensures.seen ∙ handle_second _ w h _ _ m.0 m.1) in
     record {
-      room = enough _ w _ _ _ _ (c.free_pipe-pipe.ensures.number w h) l j c.if-pipe-self.false c.if-write_open-self.false c.if-write_handle-self.false;
-      pipe = c.free_pipe-pipe.ensures.number w h;
-      read_open = k;
-      write_open = l;
-      read_handle = i;
-      write_handle = j;
-      opens = (omega (arith, c.free_open-write_open.ensures.behind), c.if-write_open-self.false);
-      handles = (omega (arith, c.free_handle-write_handle.ensures.behind), c.if-write_handle-self.false);
+      room = enough _ w _ _ _ _ j.0 l.0 n.0 j.1 l.1 n.1;
+      pipe = j.0;
+      read_open = k.0;
+      write_open = l.0;
+      read_handle = m.0;
+      write_handle = n.0;
+      opens = (k.1, l.1);
+      handles = (m.1, n.1);
     }

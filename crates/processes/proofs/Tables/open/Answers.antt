@@ -1,49 +1,27 @@
-use Rattle.std.proofs.Common.{refl, ◌∙◌}
-use Rattle.turns.specs.World.{free_open, free_handle}
-use Rattle.processes.proofs.Called.{down, answered, from_first, opens_none, opens_full, opens_held, opens_one}
+use Rattle.std.proofs.Common.{◌≡◌, false, sym, refl, ◌∙◌, rules, arith}
+use Rattle.std.proofs.lemmas.Grind.{common_steps}
+use Rattle.turns.specs.World.{is_nothing}
+use Rattle.turns.specs.declared.vocabulary.End.TheVariants.{Nothing}
+use Rattle.processes.proofs.Seeing.{open_first, handle_first}
+use Rattle.processes.proofs.Called.{down, answered, opens_none, opens_full, opens_held, opens_one}
 use Rattle.processes.proofs.Tables.open.Goals as goal
 
-pub returns-then-is_nothing : goal.returns-then-is_nothing
-returns-then-is_nothing c =
-    record {
-      sound = c.requires.sound;
-      sizes = refl;
-      states = λ q. refl;
-      done = λ w h e. down _ _ w h (opens_none c.args.self.now.sizes w c.args.p c.args.name _ (c.end_named-end.ensures w e) c.if-is_nothing.ensures);
-    }
+pub returns-then-eq-clause-done : goal.returns-then-eq-clause-done
+returns-then-eq-clause-done c w h e =
+    let n : c.end_named-end.result ≡ Nothing = search rules in
+    down _ _ w h (opens_none c.args.self.now.sizes w c.args.p c.args.name (sym n ∙ c.end_named-end.ensures w e))
 
-pub returns-then-k-self : goal.returns-then-k-self
-unfolding free_open
-returns-then-k-self c =
-    record {
-      sound = c.requires.sound;
-      sizes = refl;
-      states = λ q. refl;
-      done = λ w h e.
-          down _ _ w h (opens_full c.args.self.now.sizes w c.args.p c.args.name _ (from_first _ _ _ (c.free_open-k.ensures.number w h)) c.if-k-self.true);
-    }
+pub returns-in_default-clause-done : goal.returns-in_default-clause-done
+returns-in_default-clause-done c w h e = down _ _ w h (opens_full c.args.self.now.sizes w c.args.p c.args.name (sym c.in_default.is ∙ c.free_open.ensures.seen ∙ open_first _ w h))
 
-pub returns-then-h-self : goal.returns-then-h-self
-unfolding free_handle
-returns-then-h-self c =
-    record {
-      sound = c.requires.sound;
-      sizes = refl;
-      states = λ q. refl;
-      done = λ w h e.
-          down _ _ w h (opens_held c.args.self.now.sizes w c.args.p c.args.name _ (from_first _ _ _ (c.free_handle-h.ensures.number w h)) c.if-h-self.true);
-    }
+pub returns-in_default-free_handle-clause-done : goal.returns-in_default-free_handle-clause-done
+returns-in_default-free_handle-clause-done c w h e =
+    down _ _ w h (opens_held c.args.self.now.sizes w c.args.p c.args.name (sym c.in_default-free_handle.is ∙ c.free_handle.ensures.seen ∙ handle_first _ w h _))
 
-pub returns : goal.returns
-unfolding free_open free_handle
-returns c =
-    record {
-      sound = c.set_handle.ensures.sound;
-      sizes = c.set_handle.ensures.sizes ∙ c.set_open.ensures.sizes;
-      states = λ q. c.set_handle.ensures.states q ∙ c.set_open.ensures.states q;
-      done = λ w h e.
-          answered _ _ _ _ _ (c.set_handle.ensures.tabled _ (c.set_open.ensures.tabled w h)) refl
-          (opens_one c.args.self.now.sizes w c.args.p c.args.name _ _ _ (c.end_named-end.ensures w e) c.if-is_nothing.ensures
-          (from_first _ _ _ (c.free_open-k.ensures.number w h)) c.if-k-self.false
-          (from_first _ _ _ (c.free_handle-h.ensures.number w h)) c.if-h-self.false);
-    }
+pub returns-clause-done : goal.returns-clause-done
+unfolding is_nothing
+returns-clause-done c w h e =
+    let n : false ≡ is_nothing c.end_named-end.result = grind (arith, common_steps) in
+    answered _ _ _ _ _ (c.set_handle.ensures.tabled _ (c.set_open.ensures.tabled w h)) refl
+    (opens_one c.args.self.now.sizes w c.args.p c.args.name _ _ _ (c.end_named-end.ensures w e) n (sym c.in-Some.is ∙ c.free_open.ensures.seen ∙ open_first _ w h)
+    (sym c.in-Some-free_handle.is ∙ c.free_handle.ensures.seen ∙ handle_first _ w h _))
