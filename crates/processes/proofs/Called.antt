@@ -76,13 +76,6 @@ reaped_rests t i q l =
     (λ e. rw e refl)
     (cases_Bool (eqb q i))
 
--- the number with which it has left
-pub left_number : (s : State) (n : ℕ) → Some n ≡ (if is_left s then Some (left_with s) else None) → n ≡ left_with s
-unfolding is_left left_with
-left_number Free n e = absurd (some_not_none n e)
-left_number Runs n e = absurd (some_not_none n e)
-left_number (Left k) n e = cc
-
 -- HANDLES
 
 -- no handle of a running process is past the last

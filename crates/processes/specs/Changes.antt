@@ -12,18 +12,6 @@ use Rattle.processes.specs.declared.Process.{Process}
 use Rattle.processes.specs.declared.Tables.{Tables}
 use Rattle.processes.specs.Tabled.{Worlds}
 
-abbrev pub with_place : Tables → ℕ → Process → Tables
-with_place t p q = record t { processes = slice_set t.processes p q }
-
-abbrev pub with_thing : Tables → ℕ → OpenThing → Tables
-with_thing t k o = record t { opens = slice_set t.opens k o }
-
-abbrev pub with_turn : (t : Tables) (n u : ℕ) → n < t.sizes.processes → u < t.sizes.turn → Tables
-with_turn t n u a b = record t { turn = n; used = u; turn_there = a; used_within = b }
-
-abbrev pub with_cpu : Process → Cpu → Process
-with_cpu q c = record q { cpu = c }
-
 abbrev pub with_handles : Process → List (Option ℕ) → Process
 with_handles q hs = record q { handles = hs }
 

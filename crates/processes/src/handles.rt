@@ -8,18 +8,21 @@ use crate::Process;
 use turns::vocabulary::State;
 
 impl Process {
+    #[tactic(auto, unfolding(turns::specs::World::is_free))]
     pub(crate) fn is_free(&self) -> bool
         ensures { result ≡ is_free self.now.state }
     {
         self.state == State::Free
     }
 
+    #[tactic(auto, unfolding(turns::specs::World::is_running))]
     pub(crate) fn runs(&self) -> bool
         ensures { result ≡ is_running self.now.state }
     {
         self.state == State::Runs
     }
 
+    #[tactic(auto, unfolding(turns::specs::World::is_left))]
     pub(crate) fn has_left(&self) -> bool
         ensures { result ≡ is_left self.now.state }
     {
@@ -27,6 +30,7 @@ impl Process {
     }
 
     // The number with which it has left, if it has.
+    #[tactic(auto, unfolding(turns::specs::World::is_left, turns::specs::World::left_with))]
     pub(crate) fn left_with(&self) -> Option<u8>
         ensures { result ≡ (if is_left self.now.state then Some (left_with self.now.state) else None) }
     {
@@ -48,6 +52,7 @@ impl Process {
     }
 
     // Whether handle `h` leads to the open thing `k`.
+    #[tactic(auto, unfolding(turns::specs::World::leads_to))]
     fn leads_to(&self, h: usize, k: usize) -> bool
         ensures { result ≡ leads_to k (slice_index_or self.now.handles h None) }
     {

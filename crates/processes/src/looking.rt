@@ -20,6 +20,7 @@ enum Side {
 
 impl Tables {
     // Whether somebody runs in place `p`.
+    #[tactic(auto, unfolding(turns::specs::World::runs_in))]
     pub fn runs_in(&self, p: usize) -> bool
         requires there { p < 64 }
         ensures seen { result ≡ is_running (place self.now p).state }
@@ -153,6 +154,7 @@ impl Tables {
 }
 
 // Whether this is an end of pipe `j`, on this side.
+#[tactic(auto, unfolding(turns::specs::World::is_write_end, turns::specs::World::is_read_end))]
 fn is_end(end: End, side: Side, j: usize) -> bool
     ensures { result ≡ is_end side j end }
 {

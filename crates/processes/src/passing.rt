@@ -27,6 +27,7 @@ impl Tables {
 }
 
 // The place behind this one; after the last comes place 0.
+#[tactic(auto, unfolding(octets::specs::Rows::pick))]
 fn next_turn(places: u32, turn: u8) -> u8
     requires few { places ≤ 64 }
     requires there { turn < places }

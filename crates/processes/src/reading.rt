@@ -10,6 +10,7 @@ use turns::vocabulary::{End, OpenThing, Sizes};
 
 impl Tables {
     // What handle `h` of process `p` leads to.
+    #[tactic(auto, unfolding(turns::specs::World::handle_of))]
     pub fn handle_of(&self, p: usize, h: usize) -> Option<u8>
         requires there { p < 64 }
         ensures { (w : Worlds) → Tabled self.now w → result ≡ handle_of core w p h }
@@ -56,6 +57,7 @@ impl Tables {
 }
 
 // What a name stands for: a file, or behind the files a screen.
+#[tactic(auto, unfolding(octets::specs::Rows::pick, turns::specs::World::named))]
 pub(crate) fn end_named(sizes: Sizes, name: u32) -> End
     requires files { sizes.files ≤ 64 }
     requires screens { sizes.screens ≤ 16 }
