@@ -118,17 +118,3 @@ module _ (t : Tables) (w : Worlds) (h : Tabled t w) where
   pub left_is : (p : ℕ) → lowest_left_child t p ≡ one_of t.sizes.processes (left_child core t.sizes w p)
   unfolding left_child
   left_is p = lowest_all _ _ _ (λ i. rw (child_is p i, (h.each i).state) refl)
-
--- what a name stands for, where there are as many files as the sizes say
-module _ (z : Sizes) (w : Worlds) (f : ℕ) (e : length w.files ≡ z.files) where
-  pub named_file : f < z.files → File f ≡ named z w f
-  unfolding named
-  named_file l = rw e (sym (pick_true _ _ _ (lt-ltb _ _ l)))
-
-  pub named_screen : z.files ≤ f → f < z.files + z.screens → Screen (f - z.files) ≡ named z w f
-  unfolding named
-  named_screen m l = rw e (sym (pick_false _ _ _ (le-ltb _ _ m) ∙ pick_true _ _ _ (lt-ltb _ _ l)))
-
-  pub named_nothing : z.files + z.screens ≤ f → Nothing ≡ named z w f
-  unfolding named
-  named_nothing m = rw e (sym (pick_false _ _ _ (le-ltb _ _ (omega arith)) ∙ pick_false _ _ _ (le-ltb _ _ m)))

@@ -13,6 +13,7 @@ const NO: u32 = 4_294_967_295;
 
 impl Tables {
     // Fork: the lowest free place gets a child of `p`, which runs; the answer is its place + 1. Its memory is the caller's to copy.
+    #[tactic(auto, using(crate::proofs::Called::down, crate::proofs::Called::answered, crate::proofs::Called::forks_none, crate::proofs::Called::forks_one))]
     pub fn fork(&mut self, p: usize) -> Outcome
         requires runs { RunsAt self.old p }
         ensures sizes { self.new.sizes ≡ self.old.sizes }
@@ -43,6 +44,7 @@ impl Tables {
     }
 
     // Close: handle `h` of `p`, which runs, is free.
+    #[tactic(auto, using(crate::proofs::Called::down, crate::proofs::Called::answered, crate::proofs::Called::closes_none, crate::proofs::Called::closes_one))]
     pub fn close(&mut self, p: usize, h: u32) -> Outcome
         requires runs { RunsAt self.old p }
         ensures kept { Kept self.old self.new }
@@ -57,6 +59,7 @@ impl Tables {
     }
 
     // Copy: handle `g` of `p`, which runs, is what `h` is, from now on.
+    #[tactic(auto, using(crate::proofs::Called::down, crate::proofs::Called::answered, crate::proofs::Called::copies_none, crate::proofs::Called::copies_past, crate::proofs::Called::copies_one))]
     pub fn copy(&mut self, p: usize, h: u32, g: u32) -> Outcome
         requires runs { RunsAt self.old p }
         ensures kept { Kept self.old self.new }

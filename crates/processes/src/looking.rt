@@ -53,6 +53,7 @@ impl Tables {
     }
 
     // The lowest place with nobody in it.
+    #[tactic(auto, using(crate::proofs::Seeing::place_is))]
     pub fn free_process(&self) -> Option<usize>
         ensures number { (w : Worlds) → Tabled self.now w → result ≡ one_of self.now.sizes.processes (free_process core self.now.sizes w) }
         ensures found { IfSome result (λ p. (p < self.now.sizes.processes) × (is_free (place self.now p).state ≡ true)) }
@@ -84,6 +85,7 @@ impl Tables {
     }
 
     // Whether somebody can write into pipe `j`.
+    #[tactic(auto, using(crate::proofs::Seeing::writes_is))]
     pub fn writers(&self, j: usize) -> bool
         ensures { (w : Worlds) → Tabled self.now w → result ≡ writers core w j }
     {
@@ -91,6 +93,7 @@ impl Tables {
     }
 
     // Whether somebody can read from pipe `j`.
+    #[tactic(auto, using(crate::proofs::Seeing::reads_is))]
     pub fn readers(&self, j: usize) -> bool
         ensures { (w : Worlds) → Tabled self.now w → result ≡ readers core w j }
     {

@@ -19,6 +19,7 @@ impl Tables {
     }
 
     // Whether handle `h` of process `p`, which runs, leads to an open thing.
+    #[tactic(auto, using(crate::proofs::Called::past_none), unfolding(turns::specs::World::handle_of))]
     pub(crate) fn has_handle(&self, p: usize, h: usize) -> bool
         requires runs { RunsAt self.now p }
         ensures leads { (w : Worlds) → Tabled self.now w → result ≡ not (is_none (handle_of core w p h)) }
@@ -36,6 +37,7 @@ impl Tables {
     }
 
     // The end behind handle `h` of process `p`.
+    #[tactic(auto, unfolding(turns::specs::World::end_of, turns::specs::World::end_behind))]
     pub fn end_of(&self, p: usize, h: usize) -> End
         requires there { p < 64 }
         ensures { (w : Worlds) → Tabled self.now w → result ≡ end_of core w p h }
