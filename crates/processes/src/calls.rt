@@ -27,6 +27,7 @@ impl Tables {
     }
 
     // Wait: of the children of `p` that have left the one in the lowest place becomes free, and its number and place are the answer; while all run it stays.
+    #[tactic(auto, using(crate::proofs::Called::down, crate::proofs::Called::waiting, crate::proofs::Called::answered, crate::proofs::Called::waits_alone, crate::proofs::Called::waits_on, crate::proofs::Called::waits_over, crate::proofs::Called::reaped_rests, crate::proofs::Seeing::children_are, crate::proofs::Seeing::left_is))]
     pub fn wait(&mut self, p: usize) -> Outcome
         ensures sizes { self.new.sizes ≡ self.old.sizes }
         ensures running { (q : ℕ) → is_running (place self.new q).state ≡ is_running (place self.old q).state }
@@ -77,6 +78,7 @@ impl Tables {
     }
 
     // Open: the lowest free handle of `p`, which runs, leads to the lowest free open thing, for the file or the screen of this name, from its beginning.
+    #[tactic(auto, using(crate::proofs::Called::down, crate::proofs::Called::answered, crate::proofs::Called::opens_none, crate::proofs::Called::opens_full, crate::proofs::Called::opens_held, crate::proofs::Called::opens_one, crate::proofs::Seeing::open_first, crate::proofs::Seeing::handle_first), unfolding(turns::specs::World::is_nothing))]
     pub fn open(&mut self, p: usize, name: u32) -> Outcome
         requires runs { RunsAt self.old p }
         ensures kept { Kept self.old self.new }
