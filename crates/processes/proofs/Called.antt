@@ -17,7 +17,7 @@ use Rattle.rv32.specs.Act.{core}
 use Rattle.processes.specs.Tabled.{Worlds, Tabled, Came, RunsAt, place}
 use Rattle.processes.specs.Changes.{child}
 use Rattle.processes.specs.Looking.{one_of}
-use Rattle.processes.proofs.Seeing.{none_of, some_of, some_not_none}
+use Rattle.processes.proofs.Seeing.{none_of, some_of, open_first, handle_first, children_are, left_is}
 use Rattle.processes.specs.declared.Tables.{Tables}
 
 pub or_true : (b : Bool) → (b || true) ≡ true
@@ -124,3 +124,6 @@ module _ (z : Sizes) (w : Worlds) (p f : ℕ) where
   unfolding opens
   opens_one e k h n t a b =
       let l = some_of _ _ _ a in let m = some_of _ _ _ b in rw (← n, ← l.0, ← m.0) (sym (pick_false _ _ _ (rw (← t, lt-leb _ _ l.1, lt-leb _ _ m.1))))
+
+-- for grind, at the calls
+pub ruleset calls = (down, waiting, answered, forks_none, forks_one, waits_alone, waits_on, waits_over, reaped_rests, closes_none, closes_one, copies_none, copies_past, copies_one, opens_none, opens_full, opens_held, opens_one, open_first, handle_first, children_are, left_is)

@@ -11,9 +11,9 @@ use turns::vocabulary::{End, OpenThing, Outcome};
 // The answer of a call that is turned down.
 const NO: u32 = 4_294_967_295;
 
+#[tactic(auto, using(crate::proofs::Called::calls), unfolding(turns::specs::World::is_nothing))]
 impl Tables {
     // Fork: the lowest free place gets a child of `p`, which runs; the answer is its place + 1. Its memory is the caller's to copy.
-    #[tactic(auto, using(crate::proofs::Called::down, crate::proofs::Called::answered, crate::proofs::Called::forks_none, crate::proofs::Called::forks_one))]
     pub fn fork(&mut self, p: usize) -> Outcome
         requires runs { RunsAt self.old p }
         ensures sizes { self.new.sizes ≡ self.old.sizes }
@@ -27,7 +27,6 @@ impl Tables {
     }
 
     // Wait: of the children of `p` that have left the one in the lowest place becomes free, and its number and place are the answer; while all run it stays.
-    #[tactic(auto, using(crate::proofs::Called::down, crate::proofs::Called::waiting, crate::proofs::Called::answered, crate::proofs::Called::waits_alone, crate::proofs::Called::waits_on, crate::proofs::Called::waits_over, crate::proofs::Called::reaped_rests, crate::proofs::Seeing::children_are, crate::proofs::Seeing::left_is))]
     pub fn wait(&mut self, p: usize) -> Outcome
         ensures sizes { self.new.sizes ≡ self.old.sizes }
         ensures running { (q : ℕ) → is_running (place self.new q).state ≡ is_running (place self.old q).state }
@@ -45,7 +44,6 @@ impl Tables {
     }
 
     // Close: handle `h` of `p`, which runs, is free.
-    #[tactic(auto, using(crate::proofs::Called::down, crate::proofs::Called::answered, crate::proofs::Called::closes_none, crate::proofs::Called::closes_one))]
     pub fn close(&mut self, p: usize, h: u32) -> Outcome
         requires runs { RunsAt self.old p }
         ensures kept { Kept self.old self.new }
@@ -60,7 +58,6 @@ impl Tables {
     }
 
     // Copy: handle `g` of `p`, which runs, is what `h` is, from now on.
-    #[tactic(auto, using(crate::proofs::Called::down, crate::proofs::Called::answered, crate::proofs::Called::copies_none, crate::proofs::Called::copies_past, crate::proofs::Called::copies_one))]
     pub fn copy(&mut self, p: usize, h: u32, g: u32) -> Outcome
         requires runs { RunsAt self.old p }
         ensures kept { Kept self.old self.new }
@@ -78,7 +75,6 @@ impl Tables {
     }
 
     // Open: the lowest free handle of `p`, which runs, leads to the lowest free open thing, for the file or the screen of this name, from its beginning.
-    #[tactic(auto, using(crate::proofs::Called::down, crate::proofs::Called::answered, crate::proofs::Called::opens_none, crate::proofs::Called::opens_full, crate::proofs::Called::opens_held, crate::proofs::Called::opens_one, crate::proofs::Seeing::open_first, crate::proofs::Seeing::handle_first), unfolding(turns::specs::World::is_nothing))]
     pub fn open(&mut self, p: usize, name: u32) -> Outcome
         requires runs { RunsAt self.old p }
         ensures kept { Kept self.old self.new }
