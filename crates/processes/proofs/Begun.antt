@@ -1,8 +1,8 @@
 -- The tables at the start. Assumes nothing.
-use Rattle.std.proofs.Common.{◌≡◌, ℕ, zero, suc, ◌-◌, ◌<◌, List, ◌∷◌, length, get_or, set, replicate, Some, None, Option, sym, refl, ap, ◌∙◌, arith}
-use Rattle.std.proofs.lemmas.List.{length-replicate, get_or-set_same, get_or-set_other, length-set}
+use Rattle.std.proofs.Common.{◌≡◌, ℕ, zero, suc, ◌-◌, ◌<◌, List, ◌∷◌, get_or, set, replicate, Some, None, Option, sym, refl, ap, ◌∙◌, arith}
+use Rattle.std.proofs.lemmas.List.{length-replicate, get_or-set_same, get_or-set_other}
 use Rattle.std.proofs.lemmas.Bool.{both_ways}
-use Rattle.octets.proofs.Tests.{get_or_all, get_or_set_by}
+use Rattle.octets.proofs.Tests.{get_or_all}
 use Rattle.turns.specs.Ranges.{InRange}
 use Rattle.turns.specs.World.{process, nobody, opened, closed, is_running, begin, loaded}
 use Rattle.turns.specs.World as W

@@ -1,8 +1,8 @@
 -- What the calls of the tables come to. Assumes nothing.
 use Rattle.std.specs.Prelude.{is_none, if◌then◌else◌}
-use Rattle.std.proofs.Common.{◌≡◌, ℕ, suc, ◌+◌, ◌-◌, ◌*◌, ◌<◌, ◌≤◌, Bool, true, false, not, ◌||◌, eqb, Some, None, sym, refl, ap, ◌∙◌, subst, ⊎_elim, arith}
+use Rattle.std.proofs.Common.{◌≡◌, ℕ, suc, ◌+◌, ◌*◌, ◌<◌, ◌≤◌, Bool, true, false, not, ◌||◌, eqb, Some, None, sym, refl, ap, ◌∙◌, subst, ⊎_elim, arith}
 use Rattle.std.proofs.lemmas.Bool.{cases_Bool, both_ways, eqb-true, lt-ltb, le-ltb, lt-leb, le-leb}
-use Rattle.processes.proofs.Rows.{get_or_past}
+use Rattle.std.proofs.lemmas.List.{get_or_past}
 use Rattle.octets.specs.Rows.{some}
 use Rattle.octets.proofs.Tests.{pick_true, pick_false}
 use Rattle.turns.specs.World.{is_left, is_running, Done, process, nobody, with_process, waits, left_child, left_with, is_child, turned_down, answers, stays, no, handle_of, with_handle, closes, copies, opens, forks, free_process, named, is_nothing, free_open, free_handle, with_open}
@@ -23,10 +23,6 @@ use Rattle.processes.specs.declared.Tables.{Tables}
 pub or_true : (b : Bool) → (b || true) ≡ true
 or_true true = refl
 or_true false = refl
-
-pub not_back : (a b : Bool) → a ≡ not b → b ≡ not a
-not_back a true e = ap not (sym e)
-not_back a false e = ap not (sym e)
 
 -- a call that is turned down, one that stays, and one that has an answer
 module _ (t : Tables) (d : Done Cpu) where

@@ -1,8 +1,8 @@
 -- One thing changed in the tables, and in the world. Assumes nothing.
 use Rattle.std.proofs.Common.{◌≡◌, ℕ, zero, suc, ◌+◌, ◌%◌, ◌<◌, ◌≤◌, Bool, true, false, eqb, List, [], ◌∷◌, map, length, get_or, set, None, Option, sym, refl, ap, ◌∙◌, subst, ⊎_elim, arith}
 use Rattle.std.specs.Prelude.{if◌then◌else◌}
-use Rattle.std.proofs.lemmas.List.{length-map, length-set, get_or-set_same, get_or-set_other, get_or-map}
-use Rattle.std.proofs.lemmas.Bool.{cases_eq, cases_Bool, eq-eqb, ne_eqb, both_ways, lt-ltb, le-ltb}
+use Rattle.std.proofs.lemmas.List.{length-map, length-set, get_or-set_same, get_or-set_other}
+use Rattle.std.proofs.lemmas.Bool.{cases_eq, eq-eqb, ne_eqb, both_ways, lt-ltb, le-ltb}
 use Rattle.octets.specs.Rows.{pick}
 use Rattle.octets.proofs.Tests.{pick_true, pick_false, get_or_set_by, get_or_all}
 use Rattle.turns.specs.World.{process, nobody, opened, closed, is_running, with_process, with_open, with_handle, after_turn, passes, spends, moved, orphaned, leaves}
@@ -19,7 +19,6 @@ use Rattle.processes.specs.declared.Process.{Process}
 use Rattle.processes.specs.declared.Tables.{Tables}
 use Rattle.processes.specs.Tabled.{Tabled, Same, Kept, Follows, FollowsIn, Worlds, RunsAt, place, thing, blank, shut}
 use Rattle.processes.specs.Changes.{with_handles, without_parent, away, child, begun}
-use Rattle.processes.proofs.Rows.{get_or_past}
 
 -- the tables with other places, other open things or another turn, whatever proves what their type says of them
 abbrev Facts : (z : Sizes) (n u : ℕ) → Type 0
@@ -37,14 +36,8 @@ with_thing t k o f = record t { opens = set t.opens k o; in_range = f.0; turn_th
 abbrev with_turn : (t : Tables) (n u : ℕ) → Facts t.sizes n u → Tables
 with_turn t n u f = record t { turn = n; used = u; in_range = f.0; turn_there = f.1; used_within = f.2 }
 
-pub kept : (t : Tables) → Kept t t
-kept t = record { sizes = refl; states = λ q. refl }
-
 pub kept_on : (t u v : Tables) → Kept t u → Kept u v → Kept t v
 kept_on t u v a b = record { sizes = b.sizes ∙ a.sizes; states = λ q. b.states q ∙ a.states q }
-
-pub runs_kept : (t u : Tables) (p : ℕ) → Kept t u → RunsAt t p → RunsAt u p
-runs_kept t u p k r = (subst (λ (y : Sizes). p < y.processes) (sym k.sizes) r.0, ap is_running (k.states p) ∙ r.1)
 
 -- PLACES
 

@@ -1,6 +1,6 @@
 -- The ends of a new pipe. Assumes nothing.
 use Rattle.std.specs.Prelude.{is_none}
-use Rattle.std.proofs.Common.{◌≡◌, ℕ, suc, ◌+◌, ◌-◌, ◌<◌, ◌≤◌, Bool, true, false, not, ◌||◌, leb, List, [], length, get_or, set, Some, None, Option, refl, ap, ◌∙◌, subst, arith, set-set}
+use Rattle.std.proofs.Common.{◌≡◌, ℕ, suc, ◌-◌, ◌<◌, ◌≤◌, true, false, not, ◌||◌, leb, List, [], length, get_or, set, Some, None, Option, refl, ap, ◌∙◌, subst, arith, set-set}
 use Rattle.std.proofs.lemmas.List.{get_or-set_same}
 use Rattle.std.proofs.lemmas.Bool.{le-leb, lt-leb}
 use Rattle.octets.proofs.Lowest.{lowest_from_ge}

@@ -1,20 +1,16 @@
 -- What is seen in tables is so in their worlds. Assumes nothing.
-use Rattle.std.proofs.Common.{◌≡◌, ℕ, suc, ◌+◌, ◌-◌, ◌<◌, ◌≤◌, Bool, true, false, not, ◌&&◌, ◌||◌, eqb, length, get_or, Some, None, Option, sym, refl, ap, ◌∙◌, subst, ⊎_elim, arith}
+use Rattle.std.proofs.Common.{◌≡◌, ℕ, suc, ◌+◌, ◌-◌, ◌<◌, ◌≤◌, Bool, true, false, not, ◌&&◌, Some, None, Option, sym, refl, ap, ◌∙◌, ⊎_elim, arith}
 use Rattle.std.specs.Prelude.{if◌then◌else◌, nat_lt, is_none, find}
 use Rattle.std.specs.List.{range_with_len, list_any}
-use Rattle.std.proofs.lemmas.Bool.{cases_Bool, lt-ltb, le-ltb, ltb-true, ltb-false}
+use Rattle.std.proofs.lemmas.Bool.{cases_Bool, ltb-true, ltb-false}
 use Rattle.octets.specs.Rows.{some, lowest, lowest_from}
 use Rattle.octets.proofs.Chains.{any_range, find_range}
-use Rattle.octets.proofs.Tests.{pick_true, pick_false}
-use Rattle.turns.specs.World.{process, opened, runs_in, has_open, in_use, some_end, writers, readers, leads_to, is_running, is_free, is_left, is_child, left_child, free_process, free_open, second_open, free_handle, second_handle, free_pipe, named}
-use Rattle.turns.specs.declared.vocabulary.Sizes.{Sizes}
-use Rattle.turns.specs.declared.vocabulary.End.{End}
-use Rattle.turns.specs.declared.vocabulary.End.TheVariants.{Nothing, Screen, File}
+use Rattle.turns.specs.World.{process, runs_in, has_open, in_use, some_end, writers, readers, leads_to, is_running, is_free, is_child, left_child, free_process, free_open, second_open, free_handle, second_handle, free_pipe}
 use Rattle.rv32.specs.Act.{core}
 use Rattle.processes.specs.declared.Tables.{Tables}
 use Rattle.processes.specs.declared.looking.Side.TheVariants.{Writing, Reading}
-use Rattle.processes.specs.Tabled.{Tabled, Worlds, RunsAt, place, thing}
-use Rattle.processes.specs.Looking.{one_of, holds_open, open_in_use, lowest_free_place, lowest_free_open, lowest_free_handle, is_end, end_in_use, lowest_free_pipe, child_at, lowest_left_child}
+use Rattle.processes.specs.Tabled.{Tabled, Worlds}
+use Rattle.processes.specs.Looking.{one_of, holds_open, open_in_use, lowest_free_place, lowest_free_open, lowest_free_handle, end_in_use, lowest_free_pipe, child_at, lowest_left_child}
 use Rattle.processes.proofs.Rows.{lowest_same, some_same}
 
 -- CHAINS AND SEARCHES

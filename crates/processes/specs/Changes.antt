@@ -1,15 +1,13 @@
 -- One thing of the tables changed, all else as it was. Assumes nothing: these are definitions.
-use Rattle.std.specs.Prelude.{ℕ, ◌<◌, List, ◌∷◌, replicate, Some, None, Option, ◌==◌, slice_set, if◌then◌else◌}
+use Rattle.std.specs.Prelude.{ℕ, List, ◌∷◌, replicate, Some, None, Option, ◌==◌, if◌then◌else◌}
 use Rattle.turns.specs.World.{process}
 use Rattle.turns.specs.World as W
 use Rattle.turns.specs.declared.vocabulary.State.{State}
 use Rattle.turns.specs.declared.vocabulary.State.TheVariants.{Free, Runs}
-use Rattle.turns.specs.declared.vocabulary.OpenThing.{OpenThing}
 use Rattle.rv32.specs.declared.cpu.Cpu.{Cpu}
 use Rattle.rv32.specs.Act.{core}
 use Rattle.rv32.specs.Execute.{fresh, answered}
 use Rattle.processes.specs.declared.Process.{Process}
-use Rattle.processes.specs.declared.Tables.{Tables}
 use Rattle.processes.specs.Tabled.{Worlds}
 
 abbrev pub with_handles : Process → List (Option ℕ) → Process

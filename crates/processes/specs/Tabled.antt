@@ -49,7 +49,7 @@ pub record Tabled (t : Tables) (w : Worlds) : Type 0 where
   pub turn : t.turn ≡ w.turn
   pub used : t.used ≡ w.used
 
--- somebody runs in place p
+-- somebody runs in place p. It is a fact in clauses and no type of its own, since it changes with the tables
 abbrev pub RunsAt : Tables → ℕ → Type 0
 RunsAt t p = (p < t.sizes.processes) × (is_running (place t p).state ≡ true)
 

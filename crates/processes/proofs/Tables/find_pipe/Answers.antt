@@ -1,4 +1,4 @@
-use Rattle.std.proofs.Common.{sym, ◌∙◌, arith}
+use Rattle.std.proofs.Common.{sym, ◌∙◌}
 use Rattle.processes.proofs.Piped.{no_pipe, no_opens, no_handles, no_first_open, no_first_handle, enough}
 use Rattle.processes.proofs.Seeing.{none_of, some_of, pipe_is, open_first, open_second, handle_first, handle_second}
 use Rattle.processes.proofs.Tables.find_pipe.Goals as goal

@@ -1,7 +1,4 @@
-use Rattle.std.proofs.Common.{◌≡◌, ◌%◌, eqb, None, refl, ap, ◌∙◌, arith}
-use Rattle.octets.proofs.Tests.{get_or_all}
-use Rattle.turns.specs.World.{leaves, orphaned, is_running}
-use Rattle.turns.specs.declared.vocabulary.Sizes.{Sizes}
+use Rattle.turns.specs.World.{leaves, is_running}
 use Rattle.processes.proofs.Changed.{follows_left}
 use Rattle.processes.proofs.Tables.leave.Goals as goal
 
