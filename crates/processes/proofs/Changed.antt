@@ -17,7 +17,7 @@ use Rattle.rv32.specs.Act.{core}
 use Rattle.rv32.specs.Execute.{answered, fresh}
 use Rattle.processes.specs.declared.Process.{Process}
 use Rattle.processes.specs.declared.Tables.{Tables}
-use Rattle.processes.specs.Tabled.{Tabled, Same, Kept, Follows, FollowsIn, Worlds, RunsAt, place, thing, blank, shut}
+use Rattle.processes.specs.Tabled.{Tabled, Same, Kept, Follows, FollowsIn, Worlds, place, thing, blank, shut}
 use Rattle.processes.specs.Changes.{with_handles, without_parent, away, child, begun}
 
 -- the tables with other places, other open things or another turn, whatever proves what their type says of them

@@ -1,8 +1,6 @@
 -- Searches by tests that agree. Assumes nothing.
-use Rattle.std.proofs.Common.{◌≡◌, ℕ, zero, suc, ◌-◌, ◌<◌, ◌≤◌, Bool, true, false, ltb, List, [], ◌∷◌, length, get_or, sym, refl, ap, arith}
-use Rattle.octets.specs.Rows.{lowest_from, lowest, some}
-use Rattle.octets.proofs.Lowest.{lowest_end, some_at}
-use Rattle.std.proofs.lemmas.Bool.{le-ltb}
+use Rattle.std.proofs.Common.{◌≡◌, ℕ, zero, suc, Bool, ltb, refl, ap}
+use Rattle.octets.specs.Rows.{lowest_from, some}
 
 -- tests that agree find the same place
 pub lowest_same : (f g : ℕ → Bool) (i n : ℕ) → ((k : ℕ) → f k ≡ g k) → lowest_from f i n ≡ lowest_from g i n

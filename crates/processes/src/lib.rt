@@ -29,7 +29,7 @@ pub struct Process {
 }
 
 // All places and all open things; `sizes` says how many of them there are. `turn`: whose turn it is; `used`: how many of its instructions are over.
-// The arrays are as long as they can be at most, since a board has fixed memory and no heap.
+// The arrays are as long as they can be at most, since a board has fixed memory and no heap; places and open things go by their numbers, as in the world.
 #[derive(Clone, Copy, Debug, PartialEq, Eq)]
 pub struct Tables {
     pub sizes: Sizes,

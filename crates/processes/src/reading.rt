@@ -42,10 +42,8 @@ impl Tables {
         requires there { p < 64 }
         ensures { (w : Worlds) → Tabled self.now w → result ≡ end_of core w p h }
     {
-        match self.handle_of(p, h) {
-            None => End::Nothing,
-            Some(k) => self.open_thing(k).end,
-        }
+        self.handle_of(p, h)
+            .map_or(End::Nothing, |k| self.open_thing(k).end)
     }
 
     // The lowest handle of process `p`, from `from` on, that leads to nothing.
