@@ -78,7 +78,6 @@ fn check_length(disc: &[u8]) -> Result<(), Refusal>
 }
 
 fn is_named(disc: &[u8]) -> bool
-    requires within { 512 ≤ length disc.now }
     ensures { result ≡ named disc.now }
 {
     disc.starts_with(b"TURN")
@@ -135,7 +134,7 @@ fn is_in_range(name: SizeName, z: Sizes) -> bool
 
 // The first size that is not in its range; alone, since a proof knows what a chain gave only where it is returned.
 #[tactic(auto, unfolding(crate::specs::Check::first_out))]
-fn find_out(z: Sizes) -> Option<SizeName>
+fn first_outside(z: Sizes) -> Option<SizeName>
     ensures { result ≡ first_out z }
 {
     SizeName::ALL
@@ -150,7 +149,7 @@ pub fn first_out(z: Sizes) -> Option<SizeName>
     ensures value { result ≡ first_out z }
     ensures range { IfNone result (InRange z) }
 {
-    find_out(z)
+    first_outside(z)
 }
 
 fn check_sizes(z: Sizes) -> Result<(), Refusal>
