@@ -1,25 +1,7 @@
 // What is wrong with a list or a script, in words.
 use crate::lists::Reason;
-use crate::names::SizeName;
 use crate::scripts::Wrong;
 use std::fmt;
-
-impl fmt::Display for SizeName {
-    fn fmt<W: fmt::Write>(&self, f: &mut fmt::Formatter<W>) -> fmt::Result {
-        match self {
-            SizeName::Processes => write!(f, "processes"),
-            SizeName::Opens => write!(f, "opens"),
-            SizeName::Pipes => write!(f, "pipes"),
-            SizeName::Handles => write!(f, "handles"),
-            SizeName::Memory => write!(f, "memory"),
-            SizeName::Pipe => write!(f, "pipe"),
-            SizeName::File => write!(f, "file"),
-            SizeName::Files => write!(f, "files"),
-            SizeName::Screens => write!(f, "screens"),
-            SizeName::Turn => write!(f, "turn"),
-        }
-    }
-}
 
 impl fmt::Display for Reason {
     fn fmt<W: fmt::Write>(&self, f: &mut fmt::Formatter<W>) -> fmt::Result {
