@@ -5,3 +5,4 @@ pub mod Walks
 pub mod Lists
 pub mod Scripts
 pub mod Refusals
+pub mod Messages

@@ -1,8 +1,13 @@
 -- One line after the other. Assumes nothing: these are definitions.
-use Rattle.std.specs.Prelude.{◌≡◌, ℕ, ◌+◌, ◌<◌, ◌≤◌, length, Some, None, Option}
+use Rattle.std.specs.Prelude.{◌≡◌, ℕ, ◌+◌, ◌-◌, ◌<◌, ◌≤◌, Bool, length, find, Some, None, Option, slice_index}
+use Rattle.std.specs.List.{range_with_len}
 use Rattle.inputs.specs.Lines.{line_end}
 use Rattle.inputs.specs.declared.lines.Line.{Line}
 use Rattle.inputs.specs.declared.lines.Lines.{Lines}
+
+-- the first place of a line where there is such a byte, if there is one
+abbrev pub first : (ℕ → Bool) → Line → Option ℕ
+first test l = find (λ k. test (slice_index l.text.now k)) (range_with_len l.at (l.end - l.at))
 
 -- of the lines a, the first is line l with number n, and b are the others
 pub record FirstLine (a : Lines) (n : ℕ) (l : Line) (b : Lines) : Type 0 where

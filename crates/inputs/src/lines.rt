@@ -21,32 +21,32 @@ pub(crate) struct Line<'a> {
 }
 
 impl<'a> Line<'a> {
-    ghost use Rattle.std.specs.Prelude.{◌≡◌, ◌-◌, ◌≤◌, ◌==◌, find, slice_index};
-    ghost use Rattle.std.specs.List.{range_with_len};
+    ghost use Rattle.std.specs.Prelude.{◌≡◌, ◌≤◌, ◌==◌};
+    ghost use Rattle.inputs.specs.Walks.{first};
     ghost use Rattle.inputs.specs.Texts.{is_blank, is_letter, is_newline, is_hash, found};
     ghost use Rattle.inputs.specs.Lists.{span_at};
 
-    // The first place where a word stands; the chains are functions of their own, since a caller's proof knows one by its contract alone.
+    // The first place where a word stands. Each chain is a function of its own: behind one, a longer function's proof does not find what the chain gave.
     fn letter(&self) -> Option<usize>
-        ensures { result ≡ find (λ k. is_letter (slice_index self.now.text.now k)) (range_with_len self.now.at (self.now.end - self.now.at)) }
+        ensures { result ≡ first is_letter self.now }
     {
         (self.at..self.end).find(|&i| !is_blank(self.text[i]))
     }
 
     fn blank(&self) -> Option<usize>
-        ensures { result ≡ find (λ k. is_blank (slice_index self.now.text.now k)) (range_with_len self.now.at (self.now.end - self.now.at)) }
+        ensures { result ≡ first is_blank self.now }
     {
         (self.at..self.end).find(|&i| is_blank(self.text[i]))
     }
 
     fn newline(&self) -> Option<usize>
-        ensures { result ≡ find (λ k. is_newline (slice_index self.now.text.now k)) (range_with_len self.now.at (self.now.end - self.now.at)) }
+        ensures { result ≡ first is_newline self.now }
     {
         (self.at..self.end).find(|&i| self.text[i] == b'\n')
     }
 
     fn hash(&self) -> Option<usize>
-        ensures { result ≡ find (λ k. is_hash (slice_index self.now.text.now k)) (range_with_len self.now.at (self.now.end - self.now.at)) }
+        ensures { result ≡ first is_hash self.now }
     {
         (self.at..self.end).find(|&i| self.text[i] == b'#')
     }
