@@ -1,5 +1,5 @@
 // One process by itself: its state and its handles.
-ghost use Rattle.std.specs.Prelude.{◌≡◌, ℕ, ◌-◌, ◌<◌, Some, None, length, slice_index_or, slice_set, is_none, find, if◌then◌else◌, IfSome};
+ghost use Rattle.std.specs.Prelude.{◌≡◌, ◌-◌, ◌<◌, Some, None, length, slice_index_or, slice_set, is_none, find, if◌then◌else◌, IfSome};
 ghost use Rattle.std.specs.List.{range_with_len, list_any};
 ghost use Rattle.turns.specs.World.{is_free, is_running, is_left, left_with, leads_to};
 ghost use Rattle.processes.specs.Changes.{with_handles};
@@ -44,11 +44,7 @@ impl Process {
     pub(crate) fn handle(&self, h: usize) -> Option<u8>
         ensures { result ≡ slice_index_or self.now.handles h None }
     {
-        if h < self.handles.len() {
-            self.handles[h]
-        } else {
-            None
-        }
+        self.handles.get(h).copied().flatten()
     }
 
     // Whether handle `h` leads to the open thing `k`.

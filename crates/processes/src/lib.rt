@@ -2,6 +2,9 @@
 // pipes or screens are here: only numbers of them. `Tabled` (specs/Tabled) says of which worlds the tables are.
 #![tactic(auto)]
 
+ghost use Rattle.std.specs.Prelude.{◌<◌};
+ghost use Rattle.turns.specs.Ranges.{InRange};
+
 mod calls;
 mod changing;
 mod handles;
@@ -12,9 +15,6 @@ mod passing;
 mod piping;
 mod reading;
 mod starting;
-
-ghost use Rattle.std.specs.Prelude.{◌<◌};
-ghost use Rattle.turns.specs.Ranges.{InRange};
 
 use rv32::Cpu;
 use turns::vocabulary::{OpenThing, Sizes, State};

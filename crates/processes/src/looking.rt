@@ -1,5 +1,5 @@
 // Looking at the tables: what is seen there (specs/Looking), which is the world's answer.
-ghost use Rattle.std.specs.Prelude.{◌≡◌, ℕ, ◌-◌, ◌<◌, true, ◌&&◌, ◌||◌, IfSome};
+ghost use Rattle.std.specs.Prelude.{◌≡◌, ◌<◌, true, ◌&&◌, ◌||◌, IfSome};
 ghost use Rattle.std.specs.List.{range_with_len, list_any};
 ghost use Rattle.turns.specs.World.{runs_in, writers, readers, free_process, is_free, is_left, left_with, is_running};
 ghost use Rattle.rv32.specs.Act.{core};

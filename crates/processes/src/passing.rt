@@ -8,7 +8,7 @@ use crate::Tables;
 impl Tables {
     // The turn passes on.
     pub fn pass(&mut self)
-        ensures { Follows self.old self.new (λ w. passes self.old.sizes w) }
+        ensures { Follows self.old self.new (passes self.old.sizes) }
     {
         self.turn = next_turn(self.sizes.processes, self.turn);
         self.used = 0;
@@ -16,7 +16,7 @@ impl Tables {
 
     // One instruction of the turn is over.
     pub fn spend(&mut self)
-        ensures { Follows self.old self.new (λ w. spends self.old.sizes w) }
+        ensures { Follows self.old self.new (spends self.old.sizes) }
     {
         if self.used + 1 < self.sizes.turn {
             self.used += 1;

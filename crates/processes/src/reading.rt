@@ -1,5 +1,5 @@
 // What handles lead to, and what names stand for.
-ghost use Rattle.std.specs.Prelude.{◌≡◌, ℕ, ◌<◌, ◌≤◌, true, not, length, is_none, IfSome};
+ghost use Rattle.std.specs.Prelude.{◌≡◌, ◌<◌, ◌≤◌, true, not, length, is_none, IfSome};
 ghost use Rattle.turns.specs.World.{handle_of, end_of, opened, named};
 ghost use Rattle.rv32.specs.Act.{core};
 ghost use Rattle.processes.specs.Tabled.{Tabled, Worlds, RunsAt, thing};

@@ -28,9 +28,7 @@ impl Process {
         ensures { result ≡ first memory }
     {
         let mut handles = [None; 16];
-        handles[0] = Some(0);
-        handles[1] = Some(0);
-        handles[2] = Some(0);
+        handles[..3].fill(Some(0));
         Process {
             state: State::Runs,
             parent: 0,
