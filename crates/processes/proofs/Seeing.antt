@@ -91,18 +91,17 @@ module _ (t : Tables) (w : Worlds) (h : Tabled t w) where
   unfolding free_open
   open_first = lowest_zero _ _ _ (λ k. ap not (open_is k))
 
-  pub open_second : (k : ℕ) → k ≡ free_open core t.sizes w → k < t.sizes.opens → lowest_free_open t (k + 1) ≡ one_of t.sizes.opens (second_open core t.sizes w)
+  pub open_second : (k : ℕ) → lowest_free_open t 0 ≡ Some k → lowest_free_open t (k + 1) ≡ one_of t.sizes.opens (second_open core t.sizes w)
   unfolding free_open second_open
-  open_second k e l = rw (← e) (lowest_behind _ _ k _ l (λ i. ap not (open_is i)))
+  open_second k e = let s = some_of _ _ _ (sym e ∙ open_first) in rw (← s.0) (lowest_behind _ _ k _ s.1 (λ i. ap not (open_is i)))
 
   pub handle_first : (p : ℕ) → lowest_free_handle t p 0 ≡ one_of t.sizes.handles (free_handle t.sizes (process core w p))
   unfolding free_handle
   handle_first p = lowest_zero _ _ _ (λ i. ap is_none ((h.each p).handles i))
 
-  pub handle_second : (p i : ℕ) → i ≡ free_handle t.sizes (process core w p) → i < t.sizes.handles →
-      lowest_free_handle t p (i + 1) ≡ one_of t.sizes.handles (second_handle t.sizes (process core w p))
+  pub handle_second : (p i : ℕ) → lowest_free_handle t p 0 ≡ Some i → lowest_free_handle t p (i + 1) ≡ one_of t.sizes.handles (second_handle t.sizes (process core w p))
   unfolding free_handle second_handle
-  handle_second p i e l = rw (← e) (lowest_behind _ _ i _ l (λ k. ap is_none ((h.each p).handles k)))
+  handle_second p i e = let s = some_of _ _ _ (sym e ∙ handle_first p) in rw (← s.0) (lowest_behind _ _ i _ s.1 (λ k. ap is_none ((h.each p).handles k)))
 
   pub pipe_is : lowest_free_pipe t ≡ one_of t.sizes.pipes (free_pipe core t.sizes w)
   unfolding free_pipe

@@ -8,6 +8,7 @@ use turns::vocabulary::{End, OpenThing};
 
 impl Tables {
     // The lowest free pipe, the two lowest free open things and the two lowest free handles of `p`, if there are as many.
+    #[tactic(auto, using(crate::proofs::Piped::ends))]
     pub fn find_pipe(&self, p: usize) -> Option<PipeEnds>
         requires there { p < 64 }
         ensures { (w : Worlds) → Tabled self.now w → Found self.now.sizes w p result }
