@@ -22,7 +22,11 @@ fn copies(rt: HostRuntime) -> Result<(), Fail> {
     let mut paging = Paging::set_up(sizes, frames);
     paging.begin(sizes, frames, 0);
     let mut cache = Cache::none();
-    assert!(rt; cache.store(&paging, frames, 0, 4092, 0x0403_0201_u32).is_some());
+    assert!(rt;
+        cache
+            .store(&paging, frames, 0, 4092, 0x0403_0201_u32)
+            .is_some()
+    );
     assert!(rt; cache.store(&paging, frames, 0, 4096, 1_u32).is_none());
     paging.begin_copy(sizes, frames, 0, 1);
     let mut copy = Cache::none();
