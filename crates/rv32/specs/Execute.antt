@@ -1,5 +1,5 @@
 -- What each instruction does to the registers, and what it leaves to be done. Assumes nothing: these are definitions.
-use Rattle.std.specs.Prelude.{◌≡◌, ℕ, ◌+◌, ◌*◌, ◌/◌, ◌%◌, ◌^◌, ◌<◌, if◌then◌else◌, replicate, ℤ, Some, None, Option, ◌==◌, slice_index, slice_set}
+use Rattle.std.specs.Prelude.{◌≡◌, ℕ, ◌+◌, ◌*◌, ◌/◌, ◌%◌, ◌^◌, ◌<◌, if◌then◌else◌, replicate, ℤ, Some, None, Option, IfSome, ◌==◌, slice_index, slice_set}
 use Rattle.turns.specs.declared.vocabulary.Call.{Call}
 use Rattle.turns.specs.declared.vocabulary.Call.TheVariants as C
 use Rattle.instructions.specs.declared.instruction.Instruction.{Instruction}
@@ -106,3 +106,12 @@ Waits E.Quiet c d = Unit {0}
 Waits (E.Load width rd a) c d = Unit {0}
 Waits (E.Store width a v) c d = Unit {0}
 Waits (E.Call call) c d = d ≡ c
+
+-- What an instruction does is what was meant, an effect and the registers. The register that a load is for is one, a process that calls waits with the registers
+-- that it had, and a pc that was a multiple of 4 is one
+pub record Does (meant : Option Effect × Cpu) (effect : Option Effect) (c d : Cpu) : Type 0 where
+  pub value : effect ≡ meant.0
+  pub after : d ≡ meant.1
+  pub sound : IfSome effect SoundEffect
+  pub waits : IfSome effect (λ e. Waits e c d)
+  pub aligned : c.pc % 4 ≡ 0 → d.pc % 4 ≡ 0

@@ -2,7 +2,7 @@
 ghost use Rattle.std.specs.Prelude.{◌≡◌, ◌%◌, ◌<◌, if◌then◌else◌, Some, None, IfSome, nat_lt};
 ghost use Rattle.turns.specs.Numbers.{call_number};
 ghost use Rattle.instructions.specs.Decode.{Sound};
-ghost use Rattle.rv32.specs.Execute.{reg_of, with_reg, stepped, finished, jumped, call_of, call_in, executed, performed, fresh, answered, SoundEffect, Waits};
+ghost use Rattle.rv32.specs.Execute.{reg_of, with_reg, stepped, finished, jumped, call_of, call_in, executed, performed, fresh, answered, Does};
 
 use crate::compute::*;
 use crate::cpu::*;
@@ -60,11 +60,7 @@ impl Cpu {
     // Carries a word out. It goes through the decoded instruction, so that one decoder serves the machine, the assembler and listings. The registers are changed
     // in place: none are kept aside for a wrong instruction, which has no effect, and after which nobody looks at them.
     pub fn execute(&mut self, word: u32) -> Option<Effect>
-        ensures value { result ≡ (performed word self.old).0 }
-        ensures after { self.new ≡ (performed word self.old).1 }
-        ensures sound { IfSome result SoundEffect }
-        ensures waits { IfSome result (λ effect. Waits effect self.old self.new) }
-        ensures aligned { self.old.pc % 4 ≡ 0 → self.new.pc % 4 ≡ 0 }
+        ensures { Does (performed word self.old) result self.old self.new }
     {
         self.obey(decode(word)?)
     }
@@ -93,11 +89,7 @@ impl Cpu {
 
     fn jump(&mut self, rd: u8, target: u32) -> Option<Effect>
         requires register { rd < 32 }
-        ensures value { result ≡ (jumped self.old rd target).0 }
-        ensures after { self.new ≡ (jumped self.old rd target).1 }
-        ensures sound { IfSome result SoundEffect }
-        ensures waits { IfSome result (λ effect. Waits effect self.old self.new) }
-        ensures aligned { self.old.pc % 4 ≡ 0 → self.new.pc % 4 ≡ 0 }
+        ensures { Does (jumped self.old rd target) result self.old self.new }
     {
         if target % 4 != 0 {
             return None;
@@ -117,11 +109,7 @@ impl Cpu {
 
     fn obey(&mut self, instruction: Instruction) -> Option<Effect>
         requires sound { Sound instruction }
-        ensures value { result ≡ (executed instruction self.old).0 }
-        ensures after { self.new ≡ (executed instruction self.old).1 }
-        ensures sound { IfSome result SoundEffect }
-        ensures waits { IfSome result (λ effect. Waits effect self.old self.new) }
-        ensures aligned { self.old.pc % 4 ≡ 0 → self.new.pc % 4 ≡ 0 }
+        ensures { Does (executed instruction self.old) result self.old self.new }
     {
         match instruction {
             Instruction::Lui(rd, imm) => self.finish(rd, imm),
