@@ -1,4 +1,5 @@
-// Walking the page tables: from a process and a page to its frame.
+// Walking the page tables: from a process and a page to its frame. The frames are lent at each call, so each function asks that they are long enough for the
+// tables, and that the top tables stand.
 ghost use Rattle.std.specs.Prelude.{◌≡◌, ◌+◌, ◌*◌, ◌/◌, ◌^◌, ◌<◌, ◌≤◌, length};
 ghost use Rattle.paging.specs.Tables.{entry_of, frame_of, Tops};
 
