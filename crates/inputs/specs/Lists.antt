@@ -5,7 +5,7 @@ use Rattle.std.specs.Option.{unwrap_or}
 use Rattle.std.specs.Str.{bytes_eq}
 use Rattle.turns.specs.Names.{size_named, place_of, all_names, with_size}
 use Rattle.turns.specs.declared.sizes.SizeName.{SizeName}
-use Rattle.inputs.specs.Texts.{is_blank, is_letter, is_hash, found, number_of}
+use Rattle.inputs.specs.Texts.{is_blank, in_word, is_hash, found, number_of}
 use Rattle.inputs.specs.Lines.{line_end, all_lines}
 use Rattle.inputs.specs.declared.lists.Span.{Span}
 use Rattle.inputs.specs.declared.lists.Reason.{Reason}
@@ -19,15 +19,11 @@ use Rattle.inputs.specs.declared.lists.Fault.{Fault}
 
 -- the word of a text that begins at or behind place i, before place e
 abbrev pub span_at : List ℕ → ℕ → ℕ → Span
-span_at text i e = record { from = found is_letter text i e; to = found is_blank text (found is_letter text i e) e }
+span_at text i e = record { from = found in_word text i e; to = found is_blank text (found in_word text i e) e }
 
 -- its bytes
 abbrev pub part : List ℕ → Span → List ℕ
 part text s = take (s.to - s.from) (drop s.from text)
-
--- nothing more may stand in a line
-abbrev pub at_end : Bool → Result Unit Reason
-at_end more = if more then Err TooManyWords else Ok tt
 
 -- a size: its name, a number, and nothing more
 abbrev pub size_entry : SizeName → Option ℕ → Bool → Result (Option Entry) Reason

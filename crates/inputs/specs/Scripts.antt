@@ -38,10 +38,6 @@ key_of word = if is_printable word then Some (slice_index word 0) else if is_num
 abbrev pub is_over : List ℕ → ℕ → ℕ → Bool
 is_over text i e = (span_at text i e).from == e || slice_index text (span_at text i e).from == 35
 
--- nothing more may stand in a line
-abbrev pub at_end : Bool → Result Unit Wrong
-at_end over = if over then Ok tt else Err TooManyWords
-
 abbrev pub ticks_line : Option ℕ → Bool → Result (Option Input) Wrong
 ticks_line None over = Err NoNumber
 ticks_line (Some n) over = if over then Ok (Some (Ticks n)) else Err TooManyWords

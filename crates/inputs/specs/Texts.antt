@@ -1,5 +1,5 @@
 -- Words, numbers and lines in a text. Assumes nothing: these are definitions.
-use Rattle.std.specs.Prelude.{ℕ, ◌+◌, ◌-◌, ◌*◌, Bool, if◌then◌else◌, not, ◌||◌, List, [], ◌∷◌, Some, None, Option, ◌==◌, nat_lt, slice_index}
+use Rattle.std.specs.Prelude.{ℕ, ◌+◌, ◌-◌, ◌*◌, Bool, if◌then◌else◌, not, ◌||◌, List, [], ◌∷◌, Some, None, Ok, Err, Option, Result, ◌==◌, nat_lt, slice_index}
 use Rattle.octets.specs.Rows.{lowest_from}
 
 -- a space, a tab or a carriage return
@@ -7,8 +7,8 @@ abbrev pub is_blank : ℕ → Bool
 is_blank b = b == 32 || (b == 9 || b == 13)
 
 -- anything else is in a word
-abbrev pub is_letter : ℕ → Bool
-is_letter b = not (is_blank b)
+abbrev pub in_word : ℕ → Bool
+in_word b = not (is_blank b)
 
 abbrev pub is_newline : ℕ → Bool
 is_newline b = b == 10
@@ -33,3 +33,7 @@ number_after n (b ∷ bs) = elim (with_digit n b) [ None ↦ None | Some m ↦ n
 unfoldable pub number_of : List ℕ → Option ℕ
 number_of [] = None
 number_of (b ∷ bs) = number_after 0 (b ∷ bs)
+
+-- nothing more may stand in a line; this is wrong if something does
+abbrev pub at_end : {E : Type 0} → Bool → E → Result Unit E
+at_end over wrong = if over then Ok tt else Err wrong

@@ -69,6 +69,7 @@ pub fn refused(events: &[u8]) -> Option<usize>
 {
     let mut i = 0;
     let mut total: u64 = 0;
+    // `i` is the answer, and goes on by the length of the input that was read there: neither a range nor a chain counts so.
     while i < events.len() {
         let Some(input) = peek(events, i) else {
             return Some(i);

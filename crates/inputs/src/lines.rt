@@ -1,6 +1,6 @@
 // A text line by line, and a line word by word.
 ghost use Rattle.std.specs.Prelude.{◌≡◌, ◌+◌, ◌≤◌, length};
-ghost use Rattle.inputs.specs.Texts.{is_blank};
+ghost use Rattle.inputs.specs.Texts.{is_blank, at_end};
 
 use crate::lists::Span;
 
@@ -8,6 +8,13 @@ fn is_blank(b: u8) -> bool
     ensures { result ≡ is_blank b }
 {
     matches!(b, b' ' | b'\t' | b'\r')
+}
+
+// Nothing more may stand in a line.
+pub(crate) fn check_end<E: Drop>(over: bool, wrong: E) -> Result<(), E>
+    ensures { result ≡ at_end over wrong }
+{
+    if over { Ok(()) } else { Err(wrong) }
 }
 
 // What is left of a line: what a text has from a place up to before another.
@@ -23,29 +30,29 @@ pub(crate) struct Line<'a> {
 impl<'a> Line<'a> {
     ghost use Rattle.std.specs.Prelude.{◌≡◌, ◌≤◌, ◌==◌};
     ghost use Rattle.inputs.specs.Walks.{first};
-    ghost use Rattle.inputs.specs.Texts.{is_blank, is_letter, is_newline, is_hash, found};
+    ghost use Rattle.inputs.specs.Texts.{is_blank, in_word, is_newline, is_hash, found};
     ghost use Rattle.inputs.specs.Lists.{span_at};
 
     // The first place where a word stands. Each chain is a function of its own: behind one, a longer function's proof does not find what the chain gave.
-    fn letter(&self) -> Option<usize>
-        ensures { result ≡ first is_letter self.now }
+    fn find_word(&self) -> Option<usize>
+        ensures { result ≡ first in_word self.now }
     {
         (self.at..self.end).find(|&i| !is_blank(self.text[i]))
     }
 
-    fn blank(&self) -> Option<usize>
+    fn find_blank(&self) -> Option<usize>
         ensures { result ≡ first is_blank self.now }
     {
         (self.at..self.end).find(|&i| is_blank(self.text[i]))
     }
 
-    fn newline(&self) -> Option<usize>
+    fn find_newline(&self) -> Option<usize>
         ensures { result ≡ first is_newline self.now }
     {
         (self.at..self.end).find(|&i| self.text[i] == b'\n')
     }
 
-    fn hash(&self) -> Option<usize>
+    fn find_comment(&self) -> Option<usize>
         ensures { result ≡ first is_hash self.now }
     {
         (self.at..self.end).find(|&i| self.text[i] == b'#')
@@ -60,13 +67,13 @@ impl<'a> Line<'a> {
     {
         let text = self.text;
         let end = self.end;
-        let from = self.letter().unwrap_or(end);
+        let from = self.find_word().unwrap_or(end);
         let rest = Line {
             text,
             at: from,
             end,
         };
-        let to = rest.blank().unwrap_or(end);
+        let to = rest.find_blank().unwrap_or(end);
         Span { from, to }
     }
 
@@ -99,7 +106,7 @@ impl<'a> Line<'a> {
     {
         let text = self.text;
         let at = self.at;
-        let end = self.hash().unwrap_or(self.end);
+        let end = self.find_comment().unwrap_or(self.end);
         Line { text, at, end }
     }
 }
@@ -149,7 +156,7 @@ impl<'a> Iterator for Lines<'a> {
         }
         let end = text.len();
         let rest = Line { text, at, end };
-        let end = rest.newline().unwrap_or(end);
+        let end = rest.find_newline().unwrap_or(end);
         let number = self.number;
         self.at = end + 1;
         self.number = number + 1;

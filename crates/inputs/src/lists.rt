@@ -2,9 +2,9 @@
 ghost use Rattle.std.specs.Prelude.{◌≡◌, ◌+◌, ◌<◌, ◌≤◌, map, length, IfSome, IfOk};
 ghost use Rattle.std.specs.Option.{unwrap_or};
 ghost use Rattle.inputs.specs.Texts.{is_hash, found};
-ghost use Rattle.inputs.specs.Lists.{part, span_at, size_entry, put_entry, entry_of, EndsBy, unsaid, Said, ReadIn, at_end, given, named, said, first_missing, first_strange, finished, list_of, PathsWithin};
+ghost use Rattle.inputs.specs.Lists.{part, span_at, size_entry, put_entry, entry_of, EndsBy, unsaid, Said, ReadIn, given, named, said, first_missing, first_strange, finished, list_of, PathsWithin};
 
-use crate::lines::{Line, Lines};
+use crate::lines::{Line, Lines, check_end};
 use crate::numbers::number;
 use turns::sizes::SizeName;
 use turns::vocabulary::Sizes;
@@ -38,7 +38,7 @@ pub struct Put {
 #[derive(Clone, Copy, Debug, PartialEq, Eq)]
 pub struct DiscList {
     pub sizes: Sizes,
-    // the line in which each size was given
+    // the line in which each size was given; `Sizes` is also what is on a disc, where there are no lines
     pub lines: [usize; 10],
     pub puts: [Option<Put>; 64],
 }
@@ -78,23 +78,12 @@ pub(crate) struct Draft {
     puts: [Option<Put>; 64],
 }
 
-// Nothing more may stand in a line.
-fn check_end(more: bool) -> Result<(), Reason>
-    ensures { result ≡ at_end more }
-{
-    if more {
-        Err(Reason::TooManyWords)
-    } else {
-        Ok(())
-    }
-}
-
 // A size: its name, a number, and nothing more.
 fn size_entry(name: SizeName, value: Option<u32>, more: bool) -> Result<Option<Entry>, Reason>
     ensures { result ≡ size_entry name value more }
 {
     let n = value.ok_or(Reason::NoNumber)?;
-    check_end(more)?;
+    check_end(!more, Reason::TooManyWords)?;
     Ok(Some(Entry::Size(name, n)))
 }
 
@@ -106,7 +95,7 @@ fn put_entry(file: Option<u32>, path: Span, more: bool) -> Result<Option<Entry>,
     if path.from == path.to {
         return Err(Reason::NoPath);
     }
-    check_end(more)?;
+    check_end(!more, Reason::TooManyWords)?;
     Ok(Some(Entry::Put(f, path)))
 }
 

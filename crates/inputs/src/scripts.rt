@@ -2,10 +2,10 @@
 // comment.
 ghost use Rattle.std.specs.Prelude.{◌≡◌, ◌++◌, OnOk};
 ghost use Rattle.turns.specs.Numbers.{input_bytes};
-ghost use Rattle.inputs.specs.Scripts.{byte_of, key_of, is_over, at_end, ticks_line, key_line, cut_line, line_of, in_line, ScriptRead};
+ghost use Rattle.inputs.specs.Scripts.{byte_of, key_of, is_over, ticks_line, key_line, cut_line, line_of, in_line, ScriptRead};
 ghost use Rattle.inputs.specs.declared.scripts.ScriptError.TheVariants.{NoMemory};
 
-use crate::lines::{Line, Lines};
+use crate::lines::{Line, Lines, check_end};
 use crate::numbers::number;
 use std::alloc::{AllocError, Global};
 use turns::vocabulary::Input;
@@ -46,23 +46,12 @@ fn is_over(line: &Line) -> bool
     next == line.end || line.text[next] == b'#'
 }
 
-// Nothing more may stand in a line.
-fn check_end(over: bool) -> Result<(), Wrong>
-    ensures { result ≡ at_end over }
-{
-    if over {
-        Ok(())
-    } else {
-        Err(Wrong::TooManyWords)
-    }
-}
-
 // A number of ticks, and nothing more.
 fn ticks_line(n: Option<u32>, over: bool) -> Result<Option<Input>, Wrong>
     ensures { result ≡ ticks_line n over }
 {
     let n = n.ok_or(Wrong::NoNumber)?;
-    check_end(over)?;
+    check_end(over, Wrong::TooManyWords)?;
     Ok(Some(Input::Ticks(n)))
 }
 
@@ -72,7 +61,7 @@ fn key_line(screen: Option<u8>, key: Option<u8>, over: bool) -> Result<Option<In
 {
     let screen = screen.ok_or(Wrong::NoByte)?;
     let key = key.ok_or(Wrong::NoKey)?;
-    check_end(over)?;
+    check_end(over, Wrong::TooManyWords)?;
     Ok(Some(Input::Key(screen, key)))
 }
 
@@ -82,7 +71,7 @@ fn cut_line(done: Option<u32>, fill: Option<u8>, over: bool) -> Result<Option<In
 {
     let done = done.ok_or(Wrong::NoNumber)?;
     let fill = fill.ok_or(Wrong::NoByte)?;
-    check_end(over)?;
+    check_end(over, Wrong::TooManyWords)?;
     Ok(Some(Input::Cut(done, fill)))
 }
 

@@ -1,4 +1,4 @@
-use Rattle.std.proofs.Common.{◌≡◌, Err, sym, ◌∙◌, rules}
+use Rattle.std.proofs.Common.{◌≡◌, Err, sym, rules}
 use Rattle.inputs.proofs.Listing.{so_far_none, so_far_bad, so_far_more, so_far_all}
 use Rattle.inputs.proofs.lists.read_list.Goals as goal
 
