@@ -28,34 +28,17 @@ pub(crate) struct Line<'a> {
 }
 
 impl<'a> Line<'a> {
-    ghost use Rattle.std.specs.Prelude.{◌≡◌, ◌≤◌, ◌==◌};
+    ghost use Rattle.std.specs.Prelude.{◌≡◌, ◌≤◌, ◌==◌, ℕ, Bool};
     ghost use Rattle.inputs.specs.Walks.{first};
     ghost use Rattle.inputs.specs.Texts.{is_blank, in_word, is_newline, is_hash, found};
     ghost use Rattle.inputs.specs.Lists.{span_at};
 
-    // The first place where a word stands. Each chain is a function of its own: behind one, a longer function's proof does not find what the chain gave.
-    fn find_word(&self) -> Option<usize>
-        ensures { result ≡ first in_word self.now }
+    // The first place where a byte meets a test.
+    fn find<F: Fn(u8) -> bool>(&self, test: F) -> Option<usize>
+        requires callable { (state : F) (b : _) → F.pre state b }
+        ensures { (p : ℕ → Bool) → ((b : ℕ) (r : Bool) → F.post test b r → r ≡ p b) → result ≡ first p self.now }
     {
-        (self.at..self.end).find(|&i| !is_blank(self.text[i]))
-    }
-
-    fn find_blank(&self) -> Option<usize>
-        ensures { result ≡ first is_blank self.now }
-    {
-        (self.at..self.end).find(|&i| is_blank(self.text[i]))
-    }
-
-    fn find_newline(&self) -> Option<usize>
-        ensures { result ≡ first is_newline self.now }
-    {
-        (self.at..self.end).find(|&i| self.text[i] == b'\n')
-    }
-
-    fn find_comment(&self) -> Option<usize>
-        ensures { result ≡ first is_hash self.now }
-    {
-        (self.at..self.end).find(|&i| self.text[i] == b'#')
+        (self.at..self.end).find(|&i| test(self.text[i]))
     }
 
     // The next word; behind the last it has no bytes, and stands at the line's end.
@@ -67,13 +50,13 @@ impl<'a> Line<'a> {
     {
         let text = self.text;
         let end = self.end;
-        let from = self.find_word().unwrap_or(end);
+        let from = self.find(|b| !is_blank(b)).unwrap_or(end);
         let rest = Line {
             text,
             at: from,
             end,
         };
-        let to = rest.find_blank().unwrap_or(end);
+        let to = rest.find(|b| is_blank(b)).unwrap_or(end);
         Span { from, to }
     }
 
@@ -106,7 +89,7 @@ impl<'a> Line<'a> {
     {
         let text = self.text;
         let at = self.at;
-        let end = self.find_comment().unwrap_or(self.end);
+        let end = self.find(|b| b == b'#').unwrap_or(self.end);
         Line { text, at, end }
     }
 }
@@ -156,7 +139,7 @@ impl<'a> Iterator for Lines<'a> {
         }
         let end = text.len();
         let rest = Line { text, at, end };
-        let end = rest.find_newline().unwrap_or(end);
+        let end = rest.find(|b| b == b'\n').unwrap_or(end);
         let number = self.number;
         self.at = end + 1;
         self.number = number + 1;
