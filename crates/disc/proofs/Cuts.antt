@@ -1,8 +1,9 @@
 -- Bytes and blocks. Assumes nothing.
-use Rattle.std.proofs.Common.{◌≡◌, ℕ, ◌+◌, ◌-◌, ◌*◌, ◌/◌, ◌<◌, ◌≤◌, ◌≢◌, List, [], length, get_or, take, drop, set, sym, ap, ◌∙◌, ⊎_elim, arith}
+use Rattle.std.proofs.Common.{◌≡◌, ℕ, ◌+◌, ◌-◌, ◌*◌, ◌/◌, ◌<◌, ◌≤◌, ◌≢◌, List, [], length, get_or, take, drop, set, zero, suc, refl, sym, ap, ◌∙◌, ⊎_elim, arith}
+use Rattle.std.specs.Simd.{first_chunks}
 use borrow.Rule.Slice.PartMut.{put_mid}
-use Rattle.std.proofs.lemmas.List.{same_lists, length-set, get_or-set_same, get_or-set_other, length-append, length-take, length-drop}
-use Rattle.std.proofs.lemmas.List.FromFn.{length-map-range_with_len, get_or-map-range_with_len}
+use Rattle.std.proofs.lemmas.List.{same_lists, length-set, get_or-set_same, get_or-set_other, length-append, length-take, length-drop, drop-drop}
+use Rattle.std.proofs.lemmas.List.FromFn.{length-map-range_with_len, get_or-map-range_with_len, fill_by_all}
 use Rattle.std.proofs.lemmas.Slice.{between_is, between-put_mid, drop-put_mid, take-put_mid_below}
 use Rattle.std.proofs.lemmas.Bool.{cases_order}
 use Rattle.disc.specs.Blocks.{blocks, block_of, Whole}
@@ -58,6 +59,22 @@ module _ (xs ys : List ℕ) (i n : ℕ) (size : n ≡ 512) (fits : 512 * (i + 1)
       let l = length_blocks (put_mid (512 * i) n xs ys) in
       let m : length (blocks (put_mid (512 * i) n xs ys)) ≡ length xs / 512 = l ∙ ap (λ (m : ℕ). m / 512) length_after in
       same_lists _ _ (m ∙ sym (length-set (blocks xs) i ys ∙ length_blocks xs)) (λ k d h. at_each k d (omega arith))
+
+-- the bytes cut into arrays of 512 are their blocks
+chunk_at : (k m : ℕ) (xs : List ℕ) → k < m → get_or (first_chunks 512 m xs) k [] ≡ take 512 (drop (512 * k) xs)
+chunk_at k zero xs l = absurd (omega arith)
+chunk_at zero (suc m) xs l = refl
+chunk_at (suc k) (suc m) xs l =
+    let e : 512 * k + 512 ≡ 512 * suc k = omega arith in
+    chunk_at k m (drop 512 xs) (omega arith) ∙ ap (take 512) (drop-drop (512 * k) 512 xs ∙ ap (λ (n : ℕ). drop n xs) (omega arith))
+
+chunks_length : (m : ℕ) (xs : List ℕ) → length (first_chunks 512 m xs) ≡ m
+chunks_length zero xs = refl
+chunks_length (suc m) xs = ap suc (chunks_length m (drop 512 xs))
+
+pub chunks_blocks : (xs : List ℕ) → first_chunks 512 (length xs / 512) xs ≡ blocks xs
+unfolding blocks
+chunks_blocks xs = fill_by_all (block_of xs) (first_chunks 512 (length xs / 512) xs) (length xs / 512) [] (chunks_length (length xs / 512) xs) (λ k l. chunk_at k (length xs / 512) xs l)
 
 -- a part of the bytes that is a block, as the code cuts it
 pub cut_block : (xs : List ℕ) (i : ℕ) → 512 * (i + 1) ≤ length xs → take (512 * i + 512 - 512 * i) (drop (512 * i) xs) ≡ get_or (blocks xs) i []

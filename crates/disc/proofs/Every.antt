@@ -9,10 +9,9 @@ use Rattle.octets.proofs.Tests.{get_or_all}
 use Rattle.turns.specs.Ranges.{InRange}
 use Rattle.turns.specs.declared.vocabulary.Sizes.{Sizes}
 use Rattle.disc.specs.Blocks.{blocks}
-use Rattle.disc.specs.Layout.{plan_of, data_at, room, Fit}
+use Rattle.disc.specs.Layout.{Shape, plan_of, data_at, room, Fit}
 use Rattle.disc.specs.Check.{named, sizes_in}
 use Rattle.disc.specs.Format.{Laid, EveryList}
-use Rattle.disc.specs.declared.layout.Plan.{Plan}
 use Rattle.disc.proofs.Places.{fits, row_in}
 use Rattle.disc.proofs.Images.{laid_none, laid_more, laid_holds}
 
@@ -95,7 +94,7 @@ bare_bytes z n =
     (bytes_row (z.processes ∷ z.opens ∷ z.pipes ∷ z.handles ∷ z.memory ∷ z.pipe ∷ z.file ∷ z.files ∷ z.screens ∷ z.turn ∷ [])))
 
 -- file i is put: its length, and its bytes
-module _ (p : Plan) (fs : List (List ℕ)) where
+module _ (p : Shape) (fs : List (List ℕ)) where
   begins : ℕ → ℕ
   begins i = 512 * (data_at p + i * p.each)
 

@@ -1,25 +1,24 @@
 -- The files that a taken disc holds, as the code reads them. Assumes nothing.
-use Rattle.std.proofs.Common.{◌≡◌, ℕ, zero, suc, ◌+◌, ◌*◌, ◌<◌, ◌≤◌, List, [], length, get_or, take, drop, sym, ap, ◌∙◌, subst, ⊎_elim, arith}
-use Rattle.std.specs.List.{range_with_len, flat_map}
+use Rattle.std.proofs.Common.{◌≡◌, ℕ, zero, suc, true, false, eqb, min, ◌-◌, refl, ◌+◌, ◌*◌, ◌<◌, ◌≤◌, List, [], length, get_or, take, drop, sym, ap, ◌∙◌, subst, ⊎_elim, arith}
+use Rattle.std.specs.List.{range_with_len, flat_map, list_all}
 use Rattle.std.proofs.lemmas.List.{ext_get_or, length-take, length-drop, get_or-take, get_or-drop, get_or_past}
-use Rattle.std.proofs.lemmas.Bool.{cases_lt}
+use Rattle.std.proofs.lemmas.Bool.{cases_eq, cases_lt, both_ways, and_parts, and_from, eqb-true, eq-eqb}
 use Rattle.octets.specs.Rows.{Bytes}
 use Rattle.octets.proofs.Over.{bytes_take, bytes_append}
 use Rattle.std.proofs.lemmas.List.FromFn.{get_or-map-range_with_len, length-map-range_with_len, fill_by_all}
 use Rattle.turns.specs.declared.vocabulary.Sizes.{Sizes}
 use Rattle.disc.specs.Blocks.{Disc, at, blocks}
-use Rattle.disc.specs.Layout.{Header, plan_of, place, room, current_header, length_in, copy_in, cell, file_in, files_in, files_on, Sound}
+use Rattle.disc.specs.Layout.{Shape, Header, plan_of, place, room, current_header, length_in, copy_in, cell, file_in, files_in, files_on, Sound}
 use Rattle.disc.specs.Check.{Taken, Holds}
 use Rattle.disc.specs.Format.{HeldFits}
-use Rattle.disc.specs.declared.layout.Plan.{Plan}
 use Rattle.disc.proofs.Cuts.{length_blocks}
 use Rattle.disc.proofs.Places.{fits, file_length}
 
-pub large_bytes : (p : Plan) (xs : List ℕ) → room p ≤ length (blocks xs) → 512 * room p ≤ length xs
+pub large_bytes : (p : Shape) (xs : List ℕ) → room p ≤ length (blocks xs) → 512 * room p ≤ length xs
 large_bytes p xs h = let l = length_blocks xs in omega arith
 
 -- file f of all files
-pub file_of_files : (p : Plan) (d : Disc) (f : ℕ) → f < p.files → get_or (files_on p d) f [] ≡ file_in p (current_header p d) d f
+pub file_of_files : (p : Shape) (d : Disc) (f : ℕ) → f < p.files → get_or (files_on p d) f [] ≡ file_in p (current_header p d) d f
 unfolding files_on files_in
 file_of_files p d f l = get_or-map-range_with_len (file_in p (current_header p d) d) 0 p.files f f [] l (omega arith)
 
@@ -41,20 +40,20 @@ stretch file out n from e l h =
     let m : length (take n (drop from file)) ≡ n = simp (length-take, length-drop) (omega arith) in
     ext_get_or 0 out (take n (drop from file)) (e ∙ sym m) (λ k u. h k (omega arith) ∙ sym (get_or-take n (drop from file) k 0 (omega arith) ∙ get_or-drop from file k 0))
 
-pub large_of : (z : Sizes) (xs : List ℕ) (p : Plan) → p ≡ plan_of z → Taken z (blocks xs) → 512 * room p ≤ length xs
-large_of z xs p e t = subst (λ (q : Plan). 512 * room q ≤ length xs) (sym e) (large_bytes (plan_of z) xs t.large)
+pub large_of : (z : Sizes) (xs : List ℕ) (p : Shape) → p ≡ plan_of z → Taken z (blocks xs) → 512 * room p ≤ length xs
+large_of z xs p e t = subst (λ (q : Shape). 512 * room q ≤ length xs) (sym e) (large_bytes (plan_of z) xs t.large)
 
 -- what is known of file f once the plan and the header are at hand
-pub record Opened (z : Sizes) (xs : List ℕ) (f : ℕ) (hs : List ℕ) (p : Plan) : Type 0 where
+pub record Opened (z : Sizes) (xs : List ℕ) (f : ℕ) (hs : List ℕ) (p : Shape) : Type 0 where
   pub file : f < p.files
   pub long : length_in (blocks hs) f ≡ length (get_or (files_on (plan_of z) (blocks xs)) f [])
   pub sound : length_in (blocks hs) f ≤ p.size
   pub small : length_in (blocks hs) f ≤ z.file
   pub same : file_in p (blocks hs) (blocks xs) f ≡ get_or (files_on (plan_of z) (blocks xs)) f []
 
-pub opened : (z : Sizes) (xs : List ℕ) (f : ℕ) (hs : List ℕ) (p : Plan) → p ≡ plan_of z → Taken z (blocks xs) → f < z.files → blocks hs ≡ current_header p (blocks xs) → Opened z xs f hs p
+pub opened : (z : Sizes) (xs : List ℕ) (f : ℕ) (hs : List ℕ) (p : Shape) → p ≡ plan_of z → Taken z (blocks xs) → f < z.files → blocks hs ≡ current_header p (blocks xs) → Opened z xs f hs p
 opened z xs f hs p e t l =
-    subst (λ (q : Plan). blocks hs ≡ current_header q (blocks xs) → Opened z xs f hs q) (sym e)
+    subst (λ (q : Shape). blocks hs ≡ current_header q (blocks xs) → Opened z xs f hs q) (sym e)
     (λ h.
     let n = length_of_file z xs f t l in
     let a : length_in (blocks hs) f ≡ length_in (current_header (plan_of z) (blocks xs)) f = ap (λ (x : Header). length_in x f) h in
@@ -71,13 +70,35 @@ opened z xs f hs p e t l =
 pub same_file : (file bytes : List ℕ) (n : ℕ) → length file ≡ length bytes → length bytes ≤ n → ((k : ℕ) → k < n → k < length bytes → get_or file k 0 ≡ get_or bytes k 0) → file ≡ bytes
 same_file file bytes n e l h = ext_get_or 0 file bytes e (λ k u. h k (omega arith) (omega arith))
 
+-- what is asked of a row of places, place by place
+all_at : (file bytes : List ℕ) (a n : ℕ) → list_all (λ at. eqb (get_or file at 0) (get_or bytes at 0)) (range_with_len a n) ≡ true → (k : ℕ) → a ≤ k → k < a + n → get_or file k 0 ≡ get_or bytes k 0
+all_at file bytes a zero e k l u = absurd (omega arith)
+all_at file bytes a (suc n) e k l u =
+    let p = and_parts (eqb (get_or file a 0) (get_or bytes a 0)) _ e in
+    ⊎_elim (λ (q : k ≡ a). rw q (eqb-true (get_or file a 0) (get_or bytes a 0) p.0)) (λ q. all_at file bytes (a + 1) n p.1 k (omega arith) (omega arith)) (cases_eq k a)
+
+all_same : (bytes : List ℕ) (a n : ℕ) → list_all (λ at. eqb (get_or bytes at 0) (get_or bytes at 0)) (range_with_len a n) ≡ true
+all_same bytes a zero = refl
+all_same bytes a (suc n) = and_from (eqb (get_or bytes a 0) (get_or bytes a 0)) _ (eq-eqb (get_or bytes a 0) (get_or bytes a 0) refl) (all_same bytes (a + 1) n)
+
+-- block b of a file as the code compares it: up to the end of the block or of the bytes
+module _ (file bytes : List ℕ) (b : ℕ) where
+  pub block_more : list_all (λ at. eqb (get_or file at 0) (get_or bytes at 0)) (range_with_len (512 * b) (min (length bytes) (512 * b + 512) - 512 * b)) ≡ true →
+      ((k : ℕ) → k < 512 * b → k < length bytes → get_or file k 0 ≡ get_or bytes k 0) → (k : ℕ) → k < 512 * (b + 1) → k < length bytes → get_or file k 0 ≡ get_or bytes k 0
+  block_more e h k l u =
+      ⊎_elim (λ (q : k < 512 * b). h k q u)
+      (λ (q : 512 * b ≤ k). all_at file bytes (512 * b) (min (length bytes) (512 * b + 512) - 512 * b) e k q (omega arith)) (cases_lt k (512 * b))
+
+  pub block_differs : list_all (λ at. eqb (get_or file at 0) (get_or bytes at 0)) (range_with_len (512 * b) (min (length bytes) (512 * b + 512) - 512 * b)) ≡ false → file ≡ bytes → ⊥
+  block_differs e q = both_ways _ e (subst (λ (x : List ℕ). list_all (λ at. eqb (get_or x at 0) (get_or bytes at 0)) (range_with_len (512 * b) (min (length bytes) (512 * b + 512) - 512 * b)) ≡ true) (sym q) (all_same bytes (512 * b) _))
+
 -- all files of a disc
-pub holds_if : (z : Sizes) (xs : List ℕ) (p : Plan) (hs : List ℕ) (fs : List (List ℕ)) → p ≡ plan_of z → Taken z (blocks xs) → blocks hs ≡ current_header p (blocks xs) → length fs ≡ z.files →
+pub holds_if : (z : Sizes) (xs : List ℕ) (p : Shape) (hs : List ℕ) (fs : List (List ℕ)) → p ≡ plan_of z → Taken z (blocks xs) → blocks hs ≡ current_header p (blocks xs) → length fs ≡ z.files →
     ((f : ℕ) → f < p.files → file_in p (blocks hs) (blocks xs) f ≡ get_or fs f []) → Holds z (blocks xs) fs
 unfolding files_on files_in
 holds_if z xs p hs fs e t =
     subst
-    (λ (q : Plan). blocks hs ≡ current_header q (blocks xs) → length fs ≡ z.files → ((f : ℕ) → f < q.files → file_in q (blocks hs) (blocks xs) f ≡ get_or fs f []) → Holds z (blocks xs) fs) (sym e)
+    (λ (q : Shape). blocks hs ≡ current_header q (blocks xs) → length fs ≡ z.files → ((f : ℕ) → f < q.files → file_in q (blocks hs) (blocks xs) f ≡ get_or fs f []) → Holds z (blocks xs) fs) (sym e)
     (λ h n s.
     record {
       taken = t;
@@ -86,10 +107,10 @@ holds_if z xs p hs fs e t =
           (λ f l. sym (s f l) ∙ ap (λ (x : Header). file_in (plan_of z) x (blocks xs) f) h));
     })
 
-pub if_holds : (z : Sizes) (xs : List ℕ) (p : Plan) (hs : List ℕ) (fs : List (List ℕ)) → p ≡ plan_of z → Holds z (blocks xs) fs → blocks hs ≡ current_header p (blocks xs) → (f : ℕ) → f < p.files →
+pub if_holds : (z : Sizes) (xs : List ℕ) (p : Shape) (hs : List ℕ) (fs : List (List ℕ)) → p ≡ plan_of z → Holds z (blocks xs) fs → blocks hs ≡ current_header p (blocks xs) → (f : ℕ) → f < p.files →
     file_in p (blocks hs) (blocks xs) f ≡ get_or fs f []
 if_holds z xs p hs fs e k h f l =
-    ap (λ (x : Header). file_in p x (blocks xs) f) h ∙ sym (file_of_files p (blocks xs) f l) ∙ ap (λ (q : Plan). get_or (files_on q (blocks xs)) f []) e ∙ ap (λ (v : List (List ℕ)). get_or v f []) k.files
+    ap (λ (x : Header). file_in p x (blocks xs) f) h ∙ sym (file_of_files p (blocks xs) f l) ∙ ap (λ (q : Shape). get_or (files_on q (blocks xs)) f []) e ∙ ap (λ (v : List (List ℕ)). get_or v f []) k.files
 
 pub count_if : (z : Sizes) (d : Disc) (fs : List (List ℕ)) → Holds z d fs → length fs ≡ z.files
 unfolding files_on files_in
@@ -104,11 +125,11 @@ joined_bytes : (g : ℕ → List ℕ) (a n : ℕ) → ((i : ℕ) → Bytes (g i)
 joined_bytes g a zero h k = omega arith
 joined_bytes g a (suc n) h k = bytes_append (g a) (flat_map g (range_with_len (a + 1) n)) (h a) (joined_bytes g (a + 1) n h) k
 
-file_bytes : (p : Plan) (h : Header) (d : Disc) (f : ℕ) → ((i : ℕ) → Bytes (at d i)) → Bytes (file_in p h d f)
+file_bytes : (p : Shape) (h : Header) (d : Disc) (f : ℕ) → ((i : ℕ) → Bytes (at d i)) → Bytes (file_in p h d f)
 unfolding file_in cell
 file_bytes p h d f b = bytes_take (length_in h f) _ (joined_bytes _ 0 p.each (λ i. b (place p (copy_in h (f * p.each + i)) (f * p.each + i))))
 
-file_short : (p : Plan) (h : Header) (d : Disc) (f : ℕ) → length (file_in p h d f) ≤ length_in h f
+file_short : (p : Shape) (h : Header) (d : Disc) (f : ℕ) → length (file_in p h d f) ≤ length_in h f
 unfolding file_in
 file_short p h d f = simp length-take (omega arith)
 

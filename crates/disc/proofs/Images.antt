@@ -1,12 +1,17 @@
 -- An image that is laid out step by step: what holds after each file, and that a whole one is a disc that holds them. Assumes nothing.
-use Rattle.std.proofs.Common.{◌≡◌, ℕ, ◌+◌, ◌-◌, ◌*◌, ◌/◌, ◌%◌, ◌^◌, ◌<◌, ◌≤◌, true, ◌⊎◌, List, [], ◌∷◌, length, get_or, take, set, replicate, sym, refl, ap, ◌∙◌, subst, inl, inr, ⊎_elim, arith}
+use Rattle.std.proofs.Common.{◌≡◌, ℕ, Bool, ltb, map, ◌+◌, ◌-◌, ◌*◌, ◌/◌, ◌%◌, ◌^◌, ◌<◌, ◌≤◌, true, ◌⊎◌, List, [], ◌∷◌, ◌++◌, length, get_or, take, drop, replicate, sym, refl, ap, ◌∙◌, subst, inl, inr, ⊎_elim, arith}
 use native.Mathlib.Nat.{zero-div}
 use borrow.Rule.Slice.PartMut.{put_mid}
-use Rattle.std.proofs.lemmas.List.{length-take, get_or_append_left, get_or-append_right, get_or-take, get_or-drop, get_or-set_other, ext_get_or}
+use Rattle.std.proofs.lemmas.List.{length-take, get_or_append_left, get_or-append_right, get_or-take, get_or-drop, ext_get_or}
 use Rattle.std.proofs.lemmas.List.FromFn.{get_or-map-range_with_len, fill_by_all}
 use Rattle.std.proofs.lemmas.Nat.{mul-add-lt}
 use Rattle.std.proofs.lemmas.Slice.{drop-put_mid}
-use Rattle.std.proofs.lemmas.Bool.{cases_lt}
+use Rattle.std.specs.Prelude.{false, Some, None, not, position, if◌then◌else◌}
+use Rattle.std.specs.List.{position_or_len}
+use Rattle.std.proofs.lemmas.Bool.{cond-true, cases_lt, ltb-true, ltb-false, lt-ltb}
+use Rattle.std.proofs.lemmas.List.{length-map}
+use Rattle.std.proofs.lemmas.List.Sums.{fails_before_first}
+use Rattle.std.proofs.lemmas.List.Quantifiers.{position-Some}
 use Rattle.octets.specs.Rows.{over, Bytes}
 use Rattle.octets.specs.Words.{word_at, word_bytes}
 use Rattle.octets.proofs.Over.{length_over, get_or_over_out}
@@ -15,7 +20,7 @@ use Rattle.octets.proofs.Numbers.{word_over, word_over_out}
 use Rattle.turns.specs.Ranges.{InRange, Fits}
 use Rattle.turns.specs.declared.vocabulary.Sizes.{Sizes}
 use Rattle.disc.specs.Blocks.{at, blocks}
-use Rattle.disc.specs.Layout.{plan_of, head_at, data_at, place, room, current, header, current_header, length_in, copy_in, file_in, files_in, files_on, Sound, Fit}
+use Rattle.disc.specs.Layout.{Shape, plan_of, head_at, data_at, place, room, current, header, current_header, length_in, copy_in, file_in, files_in, files_on, Sound, Fit}
 use Rattle.disc.specs.Check.{named, sizes_in, Holds}
 use Rattle.disc.specs.Format.{image_length, Short, Misfits, Planned, Laid}
 use Rattle.disc.specs.declared.format.Misfit.{Misfit}
@@ -23,7 +28,6 @@ use Rattle.disc.specs.declared.format.Misfit.TheVariants.{Size, Count, File, Ima
 use Rattle.disc.proofs.Cuts.{length_blocks, blocks_whole}
 use Rattle.disc.proofs.Places.{row_in, fits, byte_of, word_of, current_byte, file_length, file_byte}
 use Rattle.disc.proofs.Verdicts.{named_first, sizes_first, block_bytes, if_range}
-use Rattle.disc.specs.declared.layout.Plan.{Plan}
 
 -- a byte of a part that was overwritten, and any other
 pub put_mid_in : (a n : ℕ) (xs ys : List ℕ) (k : ℕ) → a ≤ length xs → k < length ys → get_or (put_mid a n xs ys) (a + k) 0 ≡ get_or ys k 0
@@ -68,19 +72,9 @@ words_more xs entry words i v l s e h o = (
     before k (inl a) = inl a
     before k (inr a) = inr (omega arith)
 
--- the name
-pub name_put : (xs : List ℕ) → 4 ≤ length xs → named (set (set (set (set xs 0 84) 1 85) 2 82) 3 78) ≡ true
-name_put [] h = absurd (omega arith)
-name_put (a ∷ []) h = absurd (omega arith)
-name_put (a ∷ b ∷ []) h = absurd (omega arith)
-name_put (a ∷ b ∷ c ∷ []) h = absurd (omega arith)
-name_put (a ∷ b ∷ c ∷ d ∷ xs) h = refl
-
-pub name_other : (xs : List ℕ) (a b c d k : ℕ) → 4 ≤ k → get_or (set (set (set (set xs 0 a) 1 b) 2 c) 3 d) k 0 ≡ get_or xs k 0
-name_other xs a b c d k h =
-    get_or-set_other (set (set (set xs 0 a) 1 b) 2 c) 3 k d 0 (λ e. omega arith) ∙ get_or-set_other (set (set xs 0 a) 1 b) 2 k c 0 (λ e. omega arith)
-    ∙ get_or-set_other (set xs 0 a) 1 k b 0 (λ e. omega arith)
-    ∙ get_or-set_other xs 0 k a 0 (λ e. omega arith)
+-- what lies behind the name stays
+pub name_other : (xs ys : List ℕ) (k : ℕ) → length ys ≡ 4 → 4 ≤ k → get_or (ys ++ drop 4 xs) k 0 ≡ get_or xs k 0
+name_other xs ys k e h = let q : 4 + (k - 4) ≡ k = omega arith in get_or-append_right ys (drop 4 xs) 4 k 0 e h ∙ get_or-drop 4 xs (k - 4) 0 ∙ ap (λ (i : ℕ). get_or xs i 0) q
 
 -- the sizes
 pub sizes_are : (xs : List ℕ) (z : Sizes) →
@@ -88,6 +82,37 @@ pub sizes_are : (xs : List ℕ) (z : Sizes) →
 unfolding sizes_in
 sizes_are xs z h =
     rw (h 0 (omega arith), h 1 (omega arith), h 2 (omega arith), h 3 (omega arith), h 4 (omega arith), h 5 (omega arith), h 6 (omega arith), h 7 (omega arith), h 8 (omega arith), h 9 (omega arith))
+
+-- where no place is found, the test fails at all of them
+position_none : {X : Type 0} (test : X → Bool) (xs : List X) → position test xs ≡ None → (k : ℕ) (d : X) → k < length xs → test (get_or xs k d) ≡ false
+position_none test xs e k d l =
+    ⊎_elim
+    (λ (u : position_or_len test xs < length xs).
+    let z : ◌≡◌ {A = ℕ} 0 1 = cc (cond-true _ (Some (position_or_len test xs)) None (lt-ltb (position_or_len test xs) (length xs) u)) in absurd (omega arith))
+    (λ (u : length xs ≤ position_or_len test xs). fails_before_first test xs k d (omega arith))
+    (cases_lt (position_or_len test xs) (length xs))
+
+-- the first file that is too long, where each file is seen as its row of bytes
+module _ {V : Type 0} (row : V → List ℕ) (long : List ℕ → Bool) where
+  place_map : (vs : List V) → position_or_len (λ v. long (row v)) vs ≡ position_or_len long (map row vs)
+  place_map [] = refl
+  place_map (v ∷ vs) = ap (λ (n : ℕ). if not (long (row v)) then 1 + n else 0) (place_map vs)
+
+  position_map : (vs : List V) → position (λ v. long (row v)) vs ≡ position long (map row vs)
+  position_map vs = rw (place_map vs, length-map vs row) refl
+
+module _ {V : Type 0} (z : Sizes) (row : V → List ℕ) (vs : List V) where
+  pub long_at : (f : ℕ) → position (λ v. ltb z.file (length (row v))) vs ≡ Some f →
+      (f < length vs) × (z.file < length (get_or (map row vs) f [])) × Short z (map row vs) f
+  long_at f e =
+      let s = position-Some (λ (bs : List ℕ). ltb z.file (length bs)) (map row vs) f [] (sym (position_map row (λ bs. ltb z.file (length bs)) vs) ∙ e) in
+      let n = length-map vs row in
+      (omega (arith, s.0), ltb-true _ _ s.1, λ g l. ltb-false _ _ (s.2 g l))
+
+  pub long_nowhere : position (λ v. ltb z.file (length (row v))) vs ≡ None → Short z (map row vs) (length vs)
+  long_nowhere e f l =
+      let n = length-map vs row in
+      ltb-false _ _ (position_none (λ (bs : List ℕ). ltb z.file (length bs)) (map row vs) (sym (position_map row (λ bs. ltb z.file (length bs)) vs) ∙ e) f [] (omega arith))
 
 -- one file
 filed : (xs w ys bs : List ℕ) (a m f n : ℕ) → w ≡ over xs (1024 + 4 * f) (word_bytes n) → word_at w (1024 + 4 * f) ≡ n → ys ≡ bs → m ≡ length bs → n ≡ length bs → 1028 + 4 * f ≤ a →
@@ -147,7 +172,7 @@ sizes_same xs ys h =
     same a l = word_same xs ys a (λ k _ u. h k (omega arith))
 
 -- an image without files
-pub laid_none : (z : Sizes) (p : Plan) (fs : List (List ℕ)) (xs : List ℕ) → length xs ≡ 512 * room p → named xs ≡ true → sizes_in xs ≡ z → ((k : ℕ) → 44 ≤ k → k < length xs → get_or xs k 0 ≡ 0) →
+pub laid_none : (z : Sizes) (p : Shape) (fs : List (List ℕ)) (xs : List ℕ) → length xs ≡ 512 * room p → named xs ≡ true → sizes_in xs ≡ z → ((k : ℕ) → 44 ≤ k → k < length xs → get_or xs k 0 ≡ 0) →
     Laid z p fs 0 xs
 laid_none z p fs xs size name sizes bare =
     record {
@@ -161,7 +186,7 @@ laid_none z p fs xs size name sizes bare =
     }
 
 -- one file more
-module _ (z : Sizes) (p : Plan) (fs : List (List ℕ)) (i : ℕ) (xs ys : List ℕ) (fit : Fit p) (laid : Laid z p fs i xs) (within : i < p.files)
+module _ (z : Sizes) (p : Shape) (fs : List (List ℕ)) (i : ℕ) (xs ys : List ℕ) (fit : Fit p) (laid : Laid z p fs i xs) (within : i < p.files)
     (short : (f : ℕ) → f < p.files → length (get_or fs f []) ≤ p.size) (size : length ys ≡ length xs) (long : word_at ys (1024 + 4 * i) ≡ length (get_or fs i []))
     (held : (k : ℕ) → k < length (get_or fs i []) → get_or ys (512 * (data_at p + i * p.each) + k) 0 ≡ get_or (get_or fs i []) k 0)
     (others : (k : ℕ) → (k < 1024 + 4 * i) ⊎ (1028 + 4 * i ≤ k) → (k < 512 * (data_at p + i * p.each)) ⊎ (512 * (data_at p + i * p.each) + length (get_or fs i []) ≤ k) → get_or ys k 0 ≡ get_or xs k 0) where
@@ -200,7 +225,7 @@ module _ (z : Sizes) (p : Plan) (fs : List (List ℕ)) (i : ℕ) (xs ys : List �
       }
 
 -- A WHOLE IMAGE. Where its files are found
-module _ (z : Sizes) (p : Plan) (fs : List (List ℕ)) (xs : List ℕ) (fit : Fit p) (one : 1 ≤ p.head) (laid : Laid z p fs p.files xs)
+module _ (z : Sizes) (p : Shape) (fs : List (List ℕ)) (xs : List ℕ) (fit : Fit p) (one : 1 ≤ p.head) (laid : Laid z p fs p.files xs)
     (short : (f : ℕ) → f < p.files → length (get_or fs f []) ≤ p.size) where
   root_first : current (blocks xs) ≡ 0
   root_first = let s = laid.size in current_byte xs (omega arith) ∙ rw laid.root
@@ -285,7 +310,7 @@ fits_never z fs n (File g) f s m = let a = f.short g in let b = m.3 in omega ari
 fits_never z fs n (Image k) f s m = m.3 (s ∙ sym m.2)
 
 -- one file more, from what the code has put
-pub laid_step : (z : Sizes) (p : Plan) (fs : List (List ℕ)) (i : ℕ) (xs ys bs : List ℕ) → Fit p → Laid z p fs i xs → i < p.files →
+pub laid_step : (z : Sizes) (p : Shape) (fs : List (List ℕ)) (i : ℕ) (xs ys bs : List ℕ) → Fit p → Laid z p fs i xs → i < p.files →
     ((f : ℕ) → f < p.files → length (get_or fs f []) ≤ p.size) → length ys ≡ length xs → bs ≡ get_or fs i [] → word_at ys (1024 + 4 * i) ≡ length bs →
     ((k : ℕ) → k < length bs → get_or ys (512 * (data_at p + i * p.each) + k) 0 ≡ get_or bs k 0) →
     ((k : ℕ) → (k < 1024 + 4 * i) ⊎ (1028 + 4 * i ≤ k) → (k < 512 * (data_at p + i * p.each)) ⊎ (512 * (data_at p + i * p.each) + length bs ≤ k) → get_or ys k 0 ≡ get_or xs k 0) →
@@ -298,14 +323,14 @@ laid_step z p fs i xs ys bs fit laid within short size e =
     (sym e) (laid_more z p fs i xs ys fit laid within short size)
 
 -- an image of zeros, with the name and the sizes put onto it
-pub laid_bare : (z : Sizes) (p : Plan) (fs : List (List ℕ)) (xs ys : List ℕ) (n : ℕ) → n ≡ 512 * room p → xs ≡ replicate n 0 → length ys ≡ n → named ys ≡ true → sizes_in ys ≡ z →
+pub laid_bare : (z : Sizes) (p : Shape) (fs : List (List ℕ)) (xs ys : List ℕ) (n : ℕ) → n ≡ 512 * room p → xs ≡ replicate n 0 → length ys ≡ n → named ys ≡ true → sizes_in ys ≡ z →
     ((k : ℕ) → 44 ≤ k → get_or ys k 0 ≡ get_or xs k 0) → Laid z p fs 0 ys
 laid_bare z p fs xs ys n size zeros same name sizes others =
     laid_none z p fs ys (same ∙ size) name sizes (λ k l u. others k l ∙ ap (λ (v : List ℕ). get_or v k 0) zeros ∙ get_or_all n k 0)
 
-pub holds_by : (z : Sizes) (p : Plan) (fs : List (List ℕ)) (xs : List ℕ) → p ≡ plan_of z → InRange z → length fs ≡ z.files → Short z fs z.files → Laid z p fs p.files xs → Bytes xs →
+pub holds_by : (z : Sizes) (p : Shape) (fs : List (List ℕ)) (xs : List ℕ) → p ≡ plan_of z → InRange z → length fs ≡ z.files → Short z fs z.files → Laid z p fs p.files xs → Bytes xs →
     Holds z (blocks xs) fs
-holds_by z p fs xs e r n short laid bytes = laid_holds z fs xs r n short (subst (λ (q : Plan). Laid z q fs q.files xs) e laid) bytes
+holds_by z p fs xs e r n short laid bytes = laid_holds z fs xs r n short (subst (λ (q : Shape). Laid z q fs q.files xs) e laid) bytes
 
-pub planned : (z : Sizes) (p : Plan) (fs : List (List ℕ)) (n : ℕ) → p ≡ plan_of z → InRange z → n ≡ image_length z → length fs ≡ z.files → Short z fs z.files → Planned p fs n
-planned z p fs n e r s c o = subst (λ (q : Plan). Planned q fs n) (sym e) (record { fit = fits z r; size = s; count = c; short = o })
+pub planned : (z : Sizes) (p : Shape) (fs : List (List ℕ)) (n : ℕ) → p ≡ plan_of z → InRange z → n ≡ image_length z → length fs ≡ z.files → Short z fs z.files → Planned p fs n
+planned z p fs n e r s c o = subst (λ (q : Shape). Planned q fs n) (sym e) (record { fit = fits z r; size = s; count = c; short = o })

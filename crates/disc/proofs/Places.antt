@@ -9,8 +9,7 @@ use Rattle.octets.specs.Words.{word_at}
 use Rattle.turns.specs.Ranges.{InRange}
 use Rattle.turns.specs.declared.vocabulary.Sizes.{Sizes}
 use Rattle.disc.specs.Blocks.{Disc, at, blocks, block_of}
-use Rattle.disc.specs.Layout.{Header, plan_of, Fit, head_at, place, room, current, header, current_header, length_in, copy_in, cell, file_in}
-use Rattle.disc.specs.declared.layout.Plan.{Plan}
+use Rattle.disc.specs.Layout.{Shape, Header, plan_of, Fit, head_at, place, room, current, header, current_header, length_in, copy_in, cell, file_in}
 use Rattle.disc.proofs.Cuts.{length_blocks, get_or_blocks, blocks_whole}
 
 pub below_two : (P : ℕ → Type 0) → P 0 → P 1 → (c : ℕ) → c < 2 → P c
@@ -94,7 +93,7 @@ blocks_part xs k n m e h =
         ∙ take-take 512 (m - 512 * i) (drop (512 * i) (drop (512 * k) xs)) (omega arith)
         ∙ ap (take 512) (drop-drop (512 * i) (512 * k) xs ∙ ap (λ (v : ℕ). drop v xs) b)
 
-pub header_bytes : (p : Plan) (xs : List ℕ) (k m : ℕ) → m ≡ 512 * p.head → k ≡ head_at p (current (blocks xs)) → 512 * (k + p.head) ≤ length xs →
+pub header_bytes : (p : Shape) (xs : List ℕ) (k m : ℕ) → m ≡ 512 * p.head → k ≡ head_at p (current (blocks xs)) → 512 * (k + p.head) ≤ length xs →
     blocks (take m (drop (512 * k) xs)) ≡ current_header p (blocks xs)
 unfolding current_header header
 header_bytes p xs k m e f h = blocks_part xs k p.head m e h ∙ ap (λ (v : ℕ). map (λ i. at (blocks xs) (v + i)) (range_with_len 0 p.head)) f
@@ -126,11 +125,11 @@ joined_at g a (suc n) e q l =
     ∙ ap (λ (v : ℕ). get_or (g (a + q / 512)) v 0) y)
     (cases_lt q 512)
 
-pub place_low : (p : Plan) (j : ℕ) → j < p.files * p.each → (c : ℕ) → c < 2 → place p c j < room p
+pub place_low : (p : Shape) (j : ℕ) → j < p.files * p.each → (c : ℕ) → c < 2 → place p c j < room p
 place_low p j l = below_two (λ c. place p c j < room p) (omega arith) (omega arith)
 
 -- the blocks of a file
-module _ (p : Plan) (h : Header) (xs : List ℕ) (f : ℕ) (l : f < p.files) (big : 512 * room p ≤ length xs) where
+module _ (p : Shape) (h : Header) (xs : List ℕ) (f : ℕ) (l : f < p.files) (big : 512 * room p ≤ length xs) where
   index_in : (b : ℕ) → b < p.each → f * p.each + b < p.files * p.each
   index_in b u = omega (arith, mul-add-lt f p.each b p.files l u)
 

@@ -1,20 +1,24 @@
 -- What the refusals are, and that a disc is taken if and only if there is none. Assumes nothing.
 use Rattle.std.proofs.Common.{◌≡◌, ℕ, zero, suc, ◌+◌, ◌-◌, ◌*◌, ◌/◌, ◌%◌, ◌<◌, ◌≤◌, Bool, true, false, ◌&&◌, eqb, ltb, leb, List, [], ◌∷◌, length, get_or, drop, Some, None, Option, sym, refl, ap, ◌∙◌, ⊎_elim, arith}
+use Rattle.std.specs.Prelude.{find, not, IfNone}
 use Rattle.std.proofs.lemmas.List.{get_or_past}
 use Rattle.std.proofs.lemmas.List.FromFn.{get_or-map-range_with_len}
 use Rattle.std.proofs.lemmas.Bool.{cond-true, cond-false, both_ways, cases_Bool, cases_eq, cases_lt, and_parts, and_from, or_parts, or_from, or_left, or_right, and_left, leb-true, leb-false, le-leb, lt-leb, ltb-false, lt-ltb, le-ltb, eqb-true, eq-eqb, ne_eqb}
 use Rattle.octets.specs.Rows.{lowest, Bytes}
 use Rattle.octets.specs.Words.{word_at}
 use Rattle.octets.proofs.Over.{bytes_take, bytes_drop}
-use Rattle.octets.proofs.Lowest.{lowest_le, lowest_holds, lowest_below, some_at, some_none}
+use Rattle.octets.proofs.Chains.{any_range}
+use Rattle.octets.proofs.Lowest.{lowest_le, lowest_holds, lowest_below, some_none}
 use Rattle.turns.specs.Ranges.{InRange}
+use Rattle.turns.specs.Names.{all_names, name_at}
+use Rattle.turns.specs.declared.sizes.SizeName.{SizeName}
+use Rattle.turns.specs.declared.sizes.SizeName.TheVariants.{Processes, Opens, Pipes, Handles, Memory, Pipe, File, Files, Screens, Turn}
 use Rattle.turns.specs.declared.vocabulary.Sizes.{Sizes}
 use Rattle.disc.specs.Blocks.{Disc, at, blocks}
-use Rattle.disc.specs.Layout.{plan_of, head_at, room, current, header, current_header, length_in, Sound}
-use Rattle.disc.specs.declared.layout.Plan.{Plan}
-use Rattle.disc.specs.Check.{named, sizes_in, between, ranges, first_false, first_out, too_long, wrong, first_wrong, frames_for, length_refusal, name_refusal, size_refusal, block_refusal, frame_refusal, first_of, disc_sizes, disc_refusal, refusal_of, TakenBytes, Enough}
+use Rattle.disc.specs.Layout.{Shape, plan_of, head_at, room, current, header, current_header, length_in, Sound}
+use Rattle.disc.specs.Check.{named, sizes_in, between, in_range, first_out, too_long, wrong, first_wrong, frames_for, length_refusal, name_refusal, size_refusal, block_refusal, frame_refusal, first_of, disc_sizes, disc_refusal, refusal_of, TakenBytes}
 use Rattle.disc.specs.declared.check.Refusal.{Refusal}
-use Rattle.disc.specs.declared.check.Refusal.TheVariants.{Length, Name, Block, Frames}
+use Rattle.disc.specs.declared.check.Refusal.TheVariants.{Length, Name, Block}
 use Rattle.disc.proofs.Cuts.{length_blocks, get_or_blocks, blocks_whole}
 use Rattle.disc.proofs.Places.{first_byte, first_word, below_two, current_two}
 
@@ -38,25 +42,20 @@ sizes_first xs l =
       first_word xs 40 (omega arith) l,
     )
 
--- the first test that fails
-pub first_false_at : (bs : List Bool) (n i : ℕ) → ((k : ℕ) → k < i → get_or bs k false ≡ true) → i < length bs → get_or bs i false ≡ false → first_false bs n ≡ Some (n + i)
-unfolding first_false
-first_false_at [] n i h l e = absurd (omega arith)
-first_false_at (b ∷ bs) n zero h l e = let z : n + 0 ≡ n = omega arith in rw (e, z)
-first_false_at (b ∷ bs) n (suc i) h l e =
-    let z : n + 1 + i ≡ n + suc i = omega arith in rw (h 0 (omega arith)) (first_false_at bs (n + 1) i (λ k u. h (suc k) (omega arith)) (omega arith) e ∙ ap Some z)
+-- where nothing is found, the test fails everywhere
+find_none : {X : Type 0} (test : X → Bool) (xs : List X) → find test xs ≡ None → (k : ℕ) (d : X) → k < length xs → test (get_or xs k d) ≡ false
+find_none {X = X} test [] e k d l = absurd (omega arith)
+find_none {X = X} test (x ∷ xs) e k d l =
+    ⊎_elim (λ t. let z : ◌≡◌ {A = ℕ} 0 1 = cc (cond-true (test x) (Some x) (find test xs) t) in absurd (omega arith))
+    (λ t. later (find_none test xs (sym (cond-false (test x) (Some x) (find test xs) t) ∙ e)) k l t) (cases_Bool (test x))
+  where
+    later : ((k : ℕ) (d : X) → k < length xs → test (get_or xs k d) ≡ false) → (k : ℕ) → k < length (x ∷ xs) → test x ≡ false → test (get_or (x ∷ xs) k d) ≡ false
+    later h zero l t = t
+    later h (suc k) l t = h k d (omega arith)
 
-pub first_false_none : (bs : List Bool) (n : ℕ) → ((k : ℕ) → k < length bs → get_or bs k false ≡ true) → first_false bs n ≡ None
-unfolding first_false
-first_false_none [] n h = refl
-first_false_none (b ∷ bs) n h = rw (h 0 (omega arith)) (first_false_none bs (n + 1) (λ k u. h (suc k) (omega arith)))
-
-pub first_false_all : (bs : List Bool) (n : ℕ) → first_false bs n ≡ None → (k : ℕ) → k < length bs → get_or bs k false ≡ true
-unfolding first_false
-first_false_all [] n e k l = absurd (omega arith)
-first_false_all (true ∷ bs) n e zero l = refl
-first_false_all (true ∷ bs) n e (suc k) l = first_false_all bs (n + 1) e k (omega arith)
-first_false_all (false ∷ bs) n e k l = let z : ◌≡◌ {A = ℕ} 0 1 = cc in absurd (omega arith)
+not_false : (b : Bool) → not b ≡ false → b ≡ true
+not_false true e = refl
+not_false false e = sym e
 
 -- sizes in range
 low_high : (a x b : ℕ) → between a x b ≡ true → (a ≤ x) × (x ≤ b)
@@ -66,28 +65,32 @@ in_between : (a x b : ℕ) → a ≤ x → x ≤ b → between a x b ≡ true
 in_between a x b h l = and_from (leb a x) (leb x b) (le-leb a x h) (le-leb x b l)
 
 pub range_if : (z : Sizes) → first_out z ≡ None → InRange z
-unfolding first_out
+unfolding first_out in_range
 range_if z e =
-    let m = and_parts (between 4096 z.memory 1048576) (eqb (z.memory % 4096) 0) (all 4 (omega arith)) in
+    let m = and_parts (between 4096 z.memory 1048576) (eqb (z.memory % 4096) 0) (right Memory 4 (omega arith) refl) in
     let b = low_high 4096 z.memory 1048576 m.0 in
     record {
-      processes = low_high 1 z.processes 64 (all 0 (omega arith));
-      opens = low_high 1 z.opens 256 (all 1 (omega arith));
-      pipes = (low_high 0 z.pipes 64 (all 2 (omega arith))).1;
-      handles = low_high 3 z.handles 16 (all 3 (omega arith));
+      processes = low_high 1 z.processes 64 (right Processes 0 (omega arith) refl);
+      opens = low_high 1 z.opens 256 (right Opens 1 (omega arith) refl);
+      pipes = (low_high 0 z.pipes 64 (right Pipes 2 (omega arith) refl)).1;
+      handles = low_high 3 z.handles 16 (right Handles 3 (omega arith) refl);
       memory = (b.0, b.1, eqb-true (z.memory % 4096) 0 m.1);
-      pipe = low_high 1 z.pipe 4096 (all 5 (omega arith));
-      file = (low_high 0 z.file 262144 (all 6 (omega arith))).1;
-      files = low_high 1 z.files 64 (all 7 (omega arith));
-      screens = low_high 1 z.screens 16 (all 8 (omega arith));
-      turn = low_high 1 z.turn 65535 (all 9 (omega arith));
+      pipe = low_high 1 z.pipe 4096 (right Pipe 5 (omega arith) refl);
+      file = (low_high 0 z.file 262144 (right File 6 (omega arith) refl)).1;
+      files = low_high 1 z.files 64 (right Files 7 (omega arith) refl);
+      screens = low_high 1 z.screens 16 (right Screens 8 (omega arith) refl);
+      turn = low_high 1 z.turn 65535 (right Turn 9 (omega arith) refl);
     }
   where
-    all : (k : ℕ) → k < 10 → get_or (ranges z) k false ≡ true
-    all k l = first_false_all (ranges z) 0 e k (omega arith)
+    right : (name : SizeName) (k : ℕ) → k < 10 → name_at k ≡ name → in_range name z ≡ true
+    right name k l i = rw i at (not_false (in_range (name_at k) z) (find_none (λ n. not (in_range n z)) all_names e k Turn l))
+
+pub range_if_none : (z : Sizes) (o : Option SizeName) → o ≡ first_out z → IfNone o (InRange z)
+range_if_none z None e = range_if z (sym e)
+range_if_none z (Some name) e = tt
 
 pub if_range : (z : Sizes) → InRange z → first_out z ≡ None
-unfolding first_out first_false
+unfolding first_out in_range
 if_range z r =
     rw (
       in_between 1 z.processes 64 r.processes.0 r.processes.1,
@@ -115,21 +118,19 @@ lowest_all test n h =
     (cases_lt (lowest test n) n)
 
 -- lengths
-pub too_long_at : (p : Plan) (b : List ℕ) (f : ℕ) → f < p.files → p.size < word_at b (4 * f) → too_long p b ≡ true
-unfolding too_long
-too_long_at p b f l h = some_at (λ f. ltb p.size (word_at b (4 * f))) p.files f l (lt-ltb p.size (word_at b (4 * f)) h)
-
-pub too_long_none : (p : Plan) (b : List ℕ) → ((f : ℕ) → f < p.files → word_at b (4 * f) ≤ p.size) → too_long p b ≡ false
+too_long_none : (p : Shape) (b : List ℕ) → ((f : ℕ) → f < p.files → word_at b (4 * f) ≤ p.size) → too_long p b ≡ false
 unfolding too_long
 too_long_none p b h =
-    let e = lowest_all (λ f. ltb p.size (word_at b (4 * f))) p.files (λ f l. le-ltb p.size (word_at b (4 * f)) (h f l)) in le-ltb _ _ (omega arith)
+    let e = lowest_all (λ f. ltb p.size (word_at b (4 * f))) p.files (λ f l. le-ltb p.size (word_at b (4 * f)) (h f l)) in
+    any_range (λ f. ltb p.size (word_at b (4 * f))) p.files ∙ le-ltb _ _ (omega arith)
 
-pub not_too_long : (p : Plan) (b : List ℕ) → too_long p b ≡ false → (f : ℕ) → f < p.files → word_at b (4 * f) ≤ p.size
+not_too_long : (p : Shape) (b : List ℕ) → too_long p b ≡ false → (f : ℕ) → f < p.files → word_at b (4 * f) ≤ p.size
 unfolding too_long
-not_too_long p b e f l = ltb-false p.size (word_at b (4 * f)) (some_none (λ f. ltb p.size (word_at b (4 * f))) p.files f l e)
+not_too_long p b e f l =
+    let test = λ (f : ℕ). ltb p.size (word_at b (4 * f)) in ltb-false p.size (word_at b (4 * f)) (some_none test p.files f l (sym (any_range test p.files) ∙ e))
 
 -- the lowest block that is wrong
-module _ (p : Plan) (d : Disc) (k : ℕ) (one : 1 ≤ p.head) (head : k ≡ head_at p (current d)) where
+module _ (p : Shape) (d : Disc) (k : ℕ) (one : 1 ≤ p.head) (head : k ≡ head_at p (current d)) where
   head_low : k + p.head ≤ room p
   head_low = rw head (below_two (λ c. head_at p c + p.head ≤ room p) (omega arith) (omega arith) (current d) (current_two d))
 
@@ -209,23 +210,6 @@ module _ (p : Plan) (d : Disc) (k : ℕ) (one : 1 ≤ p.head) (head : k ≡ head
   pub blocks_passed : (k < length d → too_long p (at d k) ≡ false) → room p ≤ length d → block_refusal (room p) (first_wrong p d) ≡ None
   blocks_passed h l = rw (wrong_nowhere h l) (cond-false (ltb (room p) (room p)) (Some (Block (512 * room p))) None (le-ltb (room p) (room p) (omega arith)))
 
--- the tests of the sizes as the code has them in a row
-pub ten : {a b c d e f g h i j a' b' c' d' e' f' g' h' i' j' : Bool} → a ≡ a' → b ≡ b' → c ≡ c' → d ≡ d' → e ≡ e' → f ≡ f' → g ≡ g' → h ≡ h' → i ≡ i' → j ≡ j' →
-    (a ∷ b ∷ c ∷ d ∷ e ∷ f ∷ g ∷ h ∷ i ∷ j ∷ []) ≡ (a' ∷ b' ∷ c' ∷ d' ∷ e' ∷ f' ∷ g' ∷ h' ∷ i' ∷ j' ∷ [])
-ten p q r s t u v w x y = rw (p, q, r, s, t, u, v, w, x, y)
-
-pub first_out_at : (z : Sizes) (bs : List Bool) (i : ℕ) → bs ≡ ranges z → ((k : ℕ) → k < i → get_or bs k false ≡ true) → i < 10 → get_or bs i false ≡ false → Some i ≡ first_out z
-unfolding first_out
-first_out_at z bs i e h l f =
-    let n : length bs ≡ 10 = ap length e in let o : 0 + i ≡ i = omega arith in
-    sym (ap (λ (x : List Bool). first_false x 0) (sym e) ∙ first_false_at bs 0 i h (omega arith) f ∙ ap Some o)
-
-pub first_out_none : (z : Sizes) (bs : List Bool) → bs ≡ ranges z → ((k : ℕ) → k < 10 → get_or bs k false ≡ true) → first_out z ≡ None
-unfolding first_out
-first_out_none z bs e h =
-    let n : length bs ≡ 10 = ap length e in
-    ap (λ (x : List Bool). first_false x 0) (sym e) ∙ first_false_none bs 0 (λ k l. h k (omega arith))
-
 -- bytes of a disc are bytes of its blocks
 pub block_bytes : (xs : List ℕ) → Bytes xs → (i : ℕ) → Bytes (at (blocks xs) i)
 block_bytes xs h i =
@@ -241,18 +225,9 @@ length_passed n e l m =
 name_passed : (b : List ℕ) → name_refusal b ≡ None → named b ≡ true
 name_passed b e = ⊎_elim (λ t. t) (λ f. absurd (let z : ◌≡◌ {A = ℕ} 0 1 = cc (cond-false (named b) None (Some Name) f) in omega arith)) (cases_Bool (named b))
 
-size_passed : (o : Option ℕ) → size_refusal o ≡ None → o ≡ None
-size_passed None e = refl
-size_passed (Some i) e = let z : ◌≡◌ {A = ℕ} 0 1 = cc in absurd (omega arith)
-
 block_passed : (n b : ℕ) → block_refusal n b ≡ None → n ≤ b
 block_passed n b e =
     ⊎_elim (λ (l : b < n). absurd (let z : ◌≡◌ {A = ℕ} 0 1 = cc (cond-true (ltb b n) (Some (Block (512 * b))) None (lt-ltb b n l)) in omega arith)) (λ (l : n ≤ b). l) (cases_lt b n)
-
-pub frames_passed : (n lent : ℕ) → frame_refusal n lent ≡ None → n ≤ lent / 4096
-frames_passed n lent e =
-    ⊎_elim (λ (l : lent / 4096 < n). absurd (let z : ◌≡◌ {A = ℕ} 0 1 = cc (cond-true (ltb (lent / 4096) n) (Some (Frames n)) None (lt-ltb (lent / 4096) n l)) in omega arith)) (λ (l : n ≤ lent / 4096). l)
-    (cases_lt (lent / 4096) n)
 
 -- the first of the refusals
 module _ (xs : List ℕ) (e : Refusal) where
@@ -329,7 +304,3 @@ refused_frames xs lent z e a b c = rw (a, b, c)
 pub passed_frames : (xs : List ℕ) (lent : ℕ) (z : Sizes) → disc_refusal xs ≡ None → disc_sizes xs ≡ z → frame_refusal (frames_for z) lent ≡ None → refusal_of xs lent ≡ None
 unfolding refusal_of first_of
 passed_frames xs lent z a b c = rw (a, b, c)
-
-pub never_few : (z : Sizes) (lent : ℕ) (e : Refusal) → frame_refusal (frames_for z) lent ≡ Some e → Enough z lent → ⊥
-never_few z lent e r h =
-    let o : ◌≡◌ {A = ℕ} 0 1 = cc (cond-false (ltb (lent / 4096) (frames_for z)) (Some (Frames (frames_for z))) None (le-ltb (lent / 4096) (frames_for z) h)) in omega arith

@@ -1,12 +1,15 @@
 -- Which discs are taken, and where the others are refused. Assumes nothing: these are definitions.
-use Rattle.std.specs.Prelude.{◌≡◌, ℕ, ◌+◌, ◌*◌, ◌/◌, ◌%◌, ◌≤◌, Bool, true, cond, ◌&&◌, ◌||◌, List, [], ◌∷◌, length, Some, None, Option, ◌==◌, nat_le, nat_lt, slice_index}
-use Rattle.octets.specs.Rows.{lowest, some, Bytes}
+use Rattle.std.specs.Prelude.{◌≡◌, ℕ, ◌+◌, ◌*◌, ◌/◌, ◌%◌, ◌≤◌, Bool, true, ◌&&◌, ◌||◌, not, List, [], ◌∷◌, ◌++◌, length, codes, decimal, Some, None, Option, find, if◌then◌else◌, ◌==◌, nat_le, nat_lt, slice_index}
+use Rattle.std.specs.List.{list_any, range_with_len}
+use Rattle.octets.specs.Rows.{lowest, Bytes}
 use Rattle.octets.specs.Words.{word_at}
 use Rattle.turns.specs.Ranges.{InRange}
+use Rattle.turns.specs.Names.{all_names, place_of}
+use Rattle.turns.specs.declared.sizes.SizeName.{SizeName}
+use Rattle.turns.specs.declared.sizes.SizeName.TheVariants.{Processes, Opens, Pipes, Handles, Memory, Pipe, File, Files, Screens, Turn}
 use Rattle.turns.specs.declared.vocabulary.Sizes.{Sizes}
 use Rattle.disc.specs.Blocks.{Disc, at, blocks, Whole}
-use Rattle.disc.specs.Layout.{plan_of, head_at, room, current, current_header, files_on, Sound}
-use Rattle.disc.specs.declared.layout.Plan.{Plan}
+use Rattle.disc.specs.Layout.{Shape, plan_of, head_at, room, current, current_header, files_on, Sound}
 use Rattle.disc.specs.declared.check.Refusal.{Refusal}
 use Rattle.disc.specs.declared.check.Refusal.TheVariants.{Length, Name, Size, Block, Frames, Event}
 
@@ -26,6 +29,10 @@ refused_at (Size a) = a
 refused_at (Block a) = a
 refused_at (Frames n) = n
 refused_at (Event a) = a
+
+-- how it is printed
+abbrev pub refusal_words : Refusal → List ℕ
+refusal_words r = codes "refused " ++ decimal (number r) ++ codes " at " ++ decimal (refused_at r)
 
 -- BLOCK 0: "TURN", and the ten sizes
 abbrev pub named : List ℕ → Bool
@@ -58,40 +65,33 @@ between least x most = nat_le least x && nat_le x most
 abbrev pub pages : ℕ → Bool
 pages x = between 4096 x 1048576 && x % 4096 == 0
 
--- the range of each size
-abbrev pub ranges : Sizes → List Bool
-ranges z =
-    between 1 z.processes 64
-    ∷ between 1 z.opens 256
-    ∷ between 0 z.pipes 64
-    ∷ between 3 z.handles 16
-    ∷ pages z.memory
-    ∷ between 1 z.pipe 4096
-    ∷ between 0 z.file 262144
-    ∷ between 1 z.files 64
-    ∷ between 1 z.screens 16
-    ∷ between 1 z.turn 65535
-    ∷ []
-
--- the place of the first test that fails, counted from n
-unfoldable pub first_false : List Bool → ℕ → Option ℕ
-first_false [] n = None
-first_false (b ∷ bs) n = cond b (first_false bs (n + 1)) (Some n)
+-- whether a size is in its range
+unfoldable pub in_range : SizeName → Sizes → Bool
+in_range Processes z = between 1 z.processes 64
+in_range Opens z = between 1 z.opens 256
+in_range Pipes z = between 0 z.pipes 64
+in_range Handles z = between 3 z.handles 16
+in_range Memory z = pages z.memory
+in_range Pipe z = between 1 z.pipe 4096
+in_range File z = between 0 z.file 262144
+in_range Files z = between 1 z.files 64
+in_range Screens z = between 1 z.screens 16
+in_range Turn z = between 1 z.turn 65535
 
 -- which size is the first that is out of range
-unfoldable pub first_out : Sizes → Option ℕ
-first_out z = first_false (ranges z) 0
+unfoldable pub first_out : Sizes → Option SizeName
+first_out z = find (λ name. not (in_range name z)) all_names
 
 -- FILES. A block of lengths in which one is above the size of a file
-unfoldable pub too_long : Plan → List ℕ → Bool
-too_long p b = some (λ f. nat_lt p.size (word_at b (4 * f))) p.files
+unfoldable pub too_long : Shape → List ℕ → Bool
+too_long p b = list_any (λ f. nat_lt p.size (word_at b (4 * f))) (range_with_len 0 p.files)
 
 -- a block that is not as the layout says: it is missing, or it is the block of lengths of the header that counts, and one of them is too long
-unfoldable pub wrong : Plan → Disc → ℕ → Bool
+unfoldable pub wrong : Shape → Disc → ℕ → Bool
 wrong p d i = nat_le (length d) i || (i == head_at p (current d) && too_long p (at d i))
 
 -- the lowest of them, or how many blocks there have to be
-unfoldable pub first_wrong : Plan → Disc → ℕ
+unfoldable pub first_wrong : Shape → Disc → ℕ
 first_wrong p d = lowest (wrong p d) (room p)
 
 -- FRAMES: how many are needed
@@ -100,24 +100,24 @@ frames_for z = z.processes * z.memory / 4096 + 80
 
 -- THE REFUSALS. 1: of a disc's length
 abbrev pub length_refusal : ℕ → Option Refusal
-length_refusal n = cond (n % 512 == 0 && between 1024 n 67108864) None (Some (Length n))
+length_refusal n = if n % 512 == 0 && between 1024 n 67108864 then None else Some (Length n)
 
 -- 2: of block 0, by its name
 abbrev pub name_refusal : List ℕ → Option Refusal
-name_refusal b = cond (named b) None (Some Name)
+name_refusal b = if named b then None else Some Name
 
 -- 3: of the first size that is out of range, if there is one
-abbrev pub size_refusal : Option ℕ → Option Refusal
+abbrev pub size_refusal : Option SizeName → Option Refusal
 size_refusal None = None
-size_refusal (Some i) = Some (Size (4 + 4 * i))
+size_refusal (Some name) = Some (Size (4 + 4 * place_of name))
 
 -- 4: of the lowest block that is wrong, where there have to be n blocks
 abbrev pub block_refusal : ℕ → ℕ → Option Refusal
-block_refusal n b = cond (nat_lt b n) (Some (Block (512 * b))) None
+block_refusal n b = if nat_lt b n then Some (Block (512 * b)) else None
 
 -- 5: of so many bytes lent for n frames; a rest below 4,096 is no frame
 abbrev pub frame_refusal : ℕ → ℕ → Option Refusal
-frame_refusal n lent = cond (nat_lt (lent / 4096) n) (Some (Frames n)) None
+frame_refusal n lent = if nat_lt (lent / 4096) n then Some (Frames n) else None
 
 -- the first of several
 unfoldable pub first_of : List (Option Refusal) → Option Refusal

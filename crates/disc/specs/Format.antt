@@ -4,8 +4,7 @@ use Rattle.turns.specs.Ranges.{InRange, Fits}
 use Rattle.turns.specs.declared.vocabulary.Sizes.{Sizes}
 use Rattle.octets.specs.Words.{word_at}
 use Rattle.disc.specs.Blocks.{Disc}
-use Rattle.disc.specs.Layout.{plan_of, data_at, room, Fit}
-use Rattle.disc.specs.declared.layout.Plan.{Plan}
+use Rattle.disc.specs.Layout.{Shape, plan_of, data_at, room, Fit}
 use Rattle.disc.specs.Check.{named, sizes_in, first_out, Holds}
 use Rattle.disc.specs.declared.format.Misfit.{Misfit}
 use Rattle.disc.specs.declared.format.Misfit.TheVariants.{Size, Count, File, Image}
@@ -24,20 +23,20 @@ Counted z fs = InRange z × (length fs ≡ z.files)
 
 -- WHY files do not fit on a disc of n bytes: the first reason, in this order
 abbrev pub Misfits : Sizes → List (List ℕ) → ℕ → Misfit → Type 0
-Misfits z fs n (Size i) = first_out z ≡ Some i
+Misfits z fs n (Size name) = first_out z ≡ Some name
 Misfits z fs n Count = InRange z × (length fs ≢ z.files)
 Misfits z fs n (File f) = Counted z fs × Short z fs f × (f < z.files) × (z.file < length (slice_index_or fs f []))
 Misfits z fs n (Image m) = Counted z fs × Short z fs z.files × (m ≡ image_length z) × (n ≢ m)
 
 -- these files fit a plan, on an image of n bytes
-pub record Planned (p : Plan) (fs : List (List ℕ)) (n : ℕ) : Type 0 where
+pub record Planned (p : Shape) (fs : List (List ℕ)) (n : ℕ) : Type 0 where
   pub fit : Fit p
   pub size : n ≡ 512 * room p
   pub count : length fs ≡ p.files
   pub short : (f : ℕ) → f < p.files → length (slice_index_or fs f []) ≤ p.size
 
 -- How format goes: an image with the first i files on it: header A counts, and all copies A
-pub record Laid (z : Sizes) (p : Plan) (fs : List (List ℕ)) (i : ℕ) (xs : List ℕ) : Type 0 where
+pub record Laid (z : Sizes) (p : Shape) (fs : List (List ℕ)) (i : ℕ) (xs : List ℕ) : Type 0 where
   pub size : length xs ≡ 512 * room p
   pub name : named xs ≡ true
   pub sizes : sizes_in xs ≡ z

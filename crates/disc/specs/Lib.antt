@@ -1,5 +1,7 @@
 pub mod Blocks
 pub mod Writes
 pub mod Layout
+pub mod Plans
+pub mod Lent
 pub mod Check
 pub mod Format

@@ -1,5 +1,5 @@
 -- Writes to a disc go out one after the other, as long as there is power. Assumes nothing: these are definitions and statements.
-use Rattle.std.specs.Prelude.{◌≡◌, ℕ, ◌+◌, ◌-◌, cond, ◌≢◌, ◌⊎◌, List, [], ◌∷◌, map, ◌==◌, slice_set}
+use Rattle.std.specs.Prelude.{◌≡◌, ℕ, ◌+◌, ◌-◌, if◌then◌else◌, ◌≢◌, ◌⊎◌, List, [], ◌∷◌, map, ◌==◌, slice_set}
 use Rattle.std.specs.List.{range_with_len}
 use Rattle.turns.specs.Promise.{written, torn}
 use Rattle.disc.specs.Blocks.{Disc, at}
@@ -13,13 +13,13 @@ Write = ℕ × List ℕ
 -- one write under a power; where the power ends the block holds anything
 abbrev pub put_on : Power → Disc → ℕ → List ℕ → List ℕ → Disc
 put_on Lasting d b x anything = slice_set d b x
-put_on (Left n) d b x anything = slice_set d b (cond (n == 0) anything x)
+put_on (Left n) d b x anything = slice_set d b (if n == 0 then anything else x)
 put_on Gone d b x anything = d
 
 -- the power after one write
 abbrev pub spent : Power → Power
 spent Lasting = Lasting
-spent (Left n) = cond (n == 0) Gone (Left (n - 1))
+spent (Left n) = if n == 0 then Gone else Left (n - 1)
 spent Gone = Gone
 
 -- a row of writes, and the power after it

@@ -4,7 +4,7 @@ ghost use Rattle.disc.specs.Blocks.{at, blocks};
 ghost use Rattle.disc.specs.Writes.{put_on, spent, puts, spent_by, row_writes, LastingWrites, LeftTears, OthersStay, GoneOrDone};
 
 // How long power lasts: for ever; for so many more writes, and then the next one is torn; or no longer.
-#[derive(Clone, Copy)]
+#[derive(Clone, Copy, Debug, PartialEq, Eq)]
 pub enum Power {
     Lasting,
     Left(u32),
@@ -43,6 +43,8 @@ pub fn put(disc: &mut [u8], power: &mut Power, torn: &[u8], block: usize, bytes:
     }
 }
 
+// The disc, the power and the torn block are three parameters here and in `put`: a struct that lends them would hold two `&mut` for two functions, which is no plainer.
+// `n` stands beside `bytes`, which may be longer: without it callers would be asked for just so many bytes.
 // The first n blocks of `bytes` are written into the blocks from `first` on, one after the other, as far as the power allows.
 pub fn put_row(
     disc: &mut [u8],
@@ -58,8 +60,9 @@ pub fn put_row(
     ensures disc { blocks disc.new ≡ puts power.old (blocks disc.old) (row_writes first (at (blocks bytes.now)) n) torn.now }
     ensures power { power.new ≡ spent_by power.old (row_writes first (at (blocks bytes.now)) n) }
 {
-    for i in 0..n {
-        put(disc, power, torn, first + i, &bytes[512 * i..512 * i + 512]);
+    let (blocks, _) = bytes.as_chunks::<512>();
+    for (i, block) in blocks[..n].iter().enumerate() {
+        put(disc, power, torn, first + i, block);
     }
 }
 

@@ -1,15 +1,21 @@
 // Which discs are taken: a disc is looked through before anything is done with it, and refused with a number and a place.
-ghost use Rattle.std.specs.Prelude.{◌≡◌, ◌+◌, ◌*◌, ◌/◌, ◌%◌, ◌<◌, ◌≤◌, true, false, length, IfOk, Some, None, Ok, MatchOption, MatchResult, OnOk};
+ghost use Rattle.std.specs.Prelude.{◌≡◌, ◌+◌, ◌*◌, ◌/◌, ◌%◌, ◌<◌, ◌≤◌, true, false, length, IfNone, IfOk, Some, None, Ok, OnOk};
+ghost use Rattle.std.specs.Result.{result_err};
 ghost use Rattle.turns.specs.Ranges.{InRange};
 ghost use Rattle.disc.specs.Blocks.{at, blocks};
-ghost use Rattle.disc.specs.Layout.{room, Fit};
-ghost use Rattle.disc.specs.Check.{number, refused_at, between, pages, named, disc_sizes, first_out, too_long, first_wrong, frames_for, length_refusal, name_refusal, size_refusal, block_refusal, frame_refusal, disc_refusal, refusal_of, TakenBytes, Enough};
+ghost use Rattle.disc.specs.Layout.{room};
+ghost use Rattle.disc.specs.Plans.{shape};
+ghost use Rattle.disc.specs.Check.{number, refused_at, refusal_words, in_range, named, disc_sizes, first_out, too_long, first_wrong, frames_for, length_refusal, name_refusal, size_refusal, block_refusal, frame_refusal, disc_refusal, refusal_of, TakenBytes, Enough};
 
-use crate::layout::{Plan, current_of};
+use crate::layout::current_of;
+use crate::plan::Plan;
+use octets::Number;
+use std::fmt;
+use turns::sizes::SizeName;
 use turns::vocabulary::Sizes;
 
 // Why a disc is refused or what is lent beside it, with the place that is reported.
-#[derive(Clone, Copy)]
+#[derive(Clone, Copy, Debug, PartialEq, Eq)]
 pub enum Refusal {
     // the disc's length is no multiple of 512, below 2 blocks or above 131,072
     Length(usize),
@@ -26,7 +32,7 @@ pub enum Refusal {
 }
 
 impl Refusal {
-    // The number under which it is reported.
+    // The number under which it is reported: the report's format has numbers.
     pub fn number(self) -> u8
         ensures { result ≡ number self }
     {
@@ -45,21 +51,26 @@ impl Refusal {
     {
         match self {
             Refusal::Name => 0,
-            Refusal::Length(n) => n,
-            Refusal::Size(at) => at,
-            Refusal::Block(at) => at,
-            Refusal::Frames(n) => n,
-            Refusal::Event(at) => at,
+            Refusal::Length(n) | Refusal::Frames(n) => n,
+            Refusal::Size(at) | Refusal::Block(at) | Refusal::Event(at) => at,
         }
     }
 }
 
+impl fmt::Display for Refusal {
+    ghost output = { λ refusal. Some (refusal_words refusal) };
+
+    fn fmt<W: fmt::Write>(&self, f: &mut fmt::Formatter<W>) -> fmt::Result {
+        write!(f, "refused {} at {}", self.number(), self.place())
+    }
+}
+
 fn check_length(disc: &[u8]) -> Result<(), Refusal>
-    ensures value { MatchResult result (λ _. length_refusal (length disc.now) ≡ None) (λ e. length_refusal (length disc.now) ≡ Some e) }
+    ensures value { length_refusal (length disc.now) ≡ result_err result }
     ensures whole { OnOk result ((1024 ≤ length disc.now) × (length disc.now ≤ 67108864) × (length disc.now % 512 ≡ 0)) }
 {
     let n = disc.len();
-    if n % 512 == 0 && n >= 2 * 512 && n <= 131_072 * 512 {
+    if n % 512 == 0 && (2 * 512..=131_072 * 512).contains(&n) {
         Ok(())
     } else {
         Err(Refusal::Length(n))
@@ -67,15 +78,14 @@ fn check_length(disc: &[u8]) -> Result<(), Refusal>
 }
 
 fn is_named(disc: &[u8]) -> bool
-    requires within { 512 ≤ length disc.now }
     ensures { result ≡ named disc.now }
 {
-    disc[0] == b'T' && disc[1] == b'U' && disc[2] == b'R' && disc[3] == b'N'
+    disc.starts_with(b"TURN")
 }
 
 fn check_name(disc: &[u8]) -> Result<(), Refusal>
     requires within { 512 ≤ length disc.now }
-    ensures { MatchResult result (λ _. name_refusal (at (blocks disc.now) 0) ≡ None) (λ e. name_refusal (at (blocks disc.now) 0) ≡ Some e) }
+    ensures { name_refusal (at (blocks disc.now) 0) ≡ result_err result }
 {
     if is_named(disc) {
         Ok(())
@@ -90,87 +100,82 @@ fn sizes_of(disc: &[u8]) -> Sizes
     ensures { result ≡ disc_sizes disc.now }
 {
     Sizes {
-        processes: octets::word(disc, 4),
-        opens: octets::word(disc, 8),
-        pipes: octets::word(disc, 12),
-        handles: octets::word(disc, 16),
-        memory: octets::word(disc, 20),
-        pipe: octets::word(disc, 24),
-        file: octets::word(disc, 28),
-        files: octets::word(disc, 32),
-        screens: octets::word(disc, 36),
-        turn: octets::word(disc, 40),
+        processes: u32::read(disc, 4),
+        opens: u32::read(disc, 8),
+        pipes: u32::read(disc, 12),
+        handles: u32::read(disc, 16),
+        memory: u32::read(disc, 20),
+        pipe: u32::read(disc, 24),
+        file: u32::read(disc, 28),
+        files: u32::read(disc, 32),
+        screens: u32::read(disc, 36),
+        turn: u32::read(disc, 40),
     }
 }
 
-fn is_between(least: u32, x: u32, most: u32) -> bool
-    ensures { result ≡ between least x most }
+// Whether a size is in its range.
+#[tactic(auto, unfolding(crate::specs::Check::in_range))]
+fn is_in_range(name: SizeName, z: Sizes) -> bool
+    ensures { result ≡ in_range name z }
 {
-    least <= x && x <= most
+    match name {
+        SizeName::Processes => (1..=64).contains(&z.processes),
+        SizeName::Opens => (1..=256).contains(&z.opens),
+        SizeName::Pipes => z.pipes <= 64,
+        SizeName::Handles => (3..=16).contains(&z.handles),
+        SizeName::Memory => (4_096..=1_048_576).contains(&z.memory) && z.memory % 4_096 == 0,
+        SizeName::Pipe => (1..=4_096).contains(&z.pipe),
+        SizeName::File => z.file <= 262_144,
+        SizeName::Files => (1..=64).contains(&z.files),
+        SizeName::Screens => (1..=16).contains(&z.screens),
+        SizeName::Turn => (1..=65_535).contains(&z.turn),
+    }
 }
 
-// Whether a process's memory may have x bytes: whole pages.
-fn is_memory(x: u32) -> bool
-    ensures { result ≡ pages x }
+// The first size that is not in its range; alone, since a proof knows what a chain gave only where it is returned.
+#[tactic(auto, unfolding(crate::specs::Check::first_out))]
+fn first_outside(z: Sizes) -> Option<SizeName>
+    ensures { result ≡ first_out z }
 {
-    is_between(4_096, x, 1_048_576) && x % 4_096 == 0
+    SizeName::ALL
+        .iter()
+        .copied()
+        .find(|&name| !is_in_range(name, z))
 }
 
-// Which size is the first that is out of range, in the order in which they stand in block 0.
-pub fn first_out(z: Sizes) -> Option<usize>
+// Which size is the first that is out of range, in the order in which they stand in block 0; if there is none, all are in range.
+#[tactic(auto, using(crate::proofs::Verdicts::range_if_none))]
+pub fn first_out(z: Sizes) -> Option<SizeName>
     ensures value { result ≡ first_out z }
-    ensures within { MatchOption result (InRange z) (λ i. i < 10) }
+    ensures range { IfNone result (InRange z) }
 {
-    let ranges = [
-        is_between(1, z.processes, 64),
-        is_between(1, z.opens, 256),
-        is_between(0, z.pipes, 64),
-        is_between(3, z.handles, 16),
-        is_memory(z.memory),
-        is_between(1, z.pipe, 4_096),
-        is_between(0, z.file, 262_144),
-        is_between(1, z.files, 64),
-        is_between(1, z.screens, 16),
-        is_between(1, z.turn, 65_535),
-    ];
-    for (i, right) in ranges.iter().enumerate() {
-        if !*right {
-            return Some(i);
-        }
-    }
-    None
+    first_outside(z)
 }
 
 fn check_sizes(z: Sizes) -> Result<(), Refusal>
-    ensures value { MatchResult result (λ _. size_refusal (first_out z) ≡ None) (λ e. size_refusal (first_out z) ≡ Some e) }
+    ensures value { size_refusal (first_out z) ≡ result_err result }
     ensures range { OnOk result (InRange z) }
 {
     match first_out(z) {
-        Some(i) => Err(Refusal::Size(4 + 4 * i)),
+        Some(name) => Err(Refusal::Size(4 + 4 * name.place())),
         None => Ok(()),
     }
 }
 
 // Whether one of the lengths in the first block of a header is above the size of a file.
+#[tactic(auto, unfolding(crate::specs::Check::too_long))]
 fn is_too_long(lengths: &[u8], plan: Plan) -> bool
     requires whole { length lengths.now ≡ 512 }
-    requires fit { Fit plan }
-    ensures { result ≡ too_long plan lengths.now }
+    ensures { result ≡ too_long (shape plan) lengths.now }
 {
-    for f in 0..plan.files {
-        if octets::word(lengths, 4 * f) as usize > plan.size {
-            return true;
-        }
-    }
-    false
+    (0..plan.files).any(|f| u32::read(lengths, 4 * f) as usize > plan.size)
 }
 
 // The lowest block that is not as the layout says: lengths are looked at first, since a header lies below what may be missing.
 fn check_blocks(disc: &[u8], plan: Plan) -> Result<(), Refusal>
     requires least { 1024 ≤ length disc.now }
     requires most { length disc.now ≤ 67108864 }
-    requires fit { Fit plan }
-    ensures { MatchResult result (λ _. block_refusal (room plan) (first_wrong plan (blocks disc.now)) ≡ None) (λ e. block_refusal (room plan) (first_wrong plan (blocks disc.now)) ≡ Some e) }
+    ensures { block_refusal (room (shape plan)) (first_wrong (shape plan) (blocks disc.now)) ≡ result_err result }
 {
     let first = plan.head_at(current_of(disc));
     let count = disc.len() / 512;
@@ -186,7 +191,7 @@ fn check_blocks(disc: &[u8], plan: Plan) -> Result<(), Refusal>
 // Whether so many bytes are enough for all processes and the tables.
 fn check_frames(z: Sizes, lent: usize) -> Result<(), Refusal>
     requires range { InRange z }
-    ensures { MatchResult result (λ _. frame_refusal (frames_for z) lent ≡ None) (λ e. frame_refusal (frames_for z) lent ≡ Some e) }
+    ensures { frame_refusal (frames_for z) lent ≡ result_err result }
 {
     let needed = z.processes as usize * z.memory as usize / 4_096 + 80;
     if lent / 4_096 < needed {
@@ -197,7 +202,7 @@ fn check_frames(z: Sizes, lent: usize) -> Result<(), Refusal>
 
 // The sizes of a disc that is taken; else the first of refusals 1 to 4.
 pub fn check_disc(disc: &[u8]) -> Result<Sizes, Refusal>
-    ensures value { MatchResult result (λ _. disc_refusal disc.now ≡ None) (λ e. disc_refusal disc.now ≡ Some e) }
+    ensures value { disc_refusal disc.now ≡ result_err result }
     ensures taken { IfOk result (λ z. TakenBytes z disc.now) }
     ensures only { (z : Sizes) → TakenBytes z disc.now → result ≡ Ok z }
 {
@@ -211,7 +216,7 @@ pub fn check_disc(disc: &[u8]) -> Result<Sizes, Refusal>
 
 // The sizes of a disc that is taken, if so many bytes are enough for its frames; else the first of refusals 1 to 5.
 pub fn check(disc: &[u8], lent: usize) -> Result<Sizes, Refusal>
-    ensures value { MatchResult result (λ _. refusal_of disc.now lent ≡ None) (λ e. refusal_of disc.now lent ≡ Some e) }
+    ensures value { refusal_of disc.now lent ≡ result_err result }
     ensures taken { IfOk result (λ z. TakenBytes z disc.now × Enough z lent) }
     ensures only { (z : Sizes) → TakenBytes z disc.now → Enough z lent → result ≡ Ok z }
 {

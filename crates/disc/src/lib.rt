@@ -3,6 +3,8 @@
 
 pub mod blocks;
 pub mod check;
+pub mod files;
 pub mod format;
 pub mod layout;
+pub mod plan;
 pub mod read;

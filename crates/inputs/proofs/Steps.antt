@@ -3,11 +3,14 @@ use Rattle.std.proofs.Common.{◌≡◌, ℕ, zero, suc, ◌+◌, ◌^◌, ◌<�
 use Rattle.std.specs.List.{flat_map}
 use Rattle.std.proofs.lemmas.Bool.{cond_both, cond-true, cond-false, or_left, or_right, or_from, or_parts, cases_lt, ltb-false, lt-ltb, le-ltb, le-leb, lt-leb}
 use Rattle.std.proofs.lemmas.List.{drop_all, drop_more}
+use Rattle.std.proofs.lemmas.Grind.{common_steps}
+use Rattle.std.proofs.lemmas.Option.{none-some, same_Some}
 use Rattle.octets.specs.Rows.{Bytes}
 use Rattle.octets.specs.Words.{word_at, word_bytes}
 use Rattle.octets.proofs.Numbers.{word_back}
 use Rattle.turns.specs.Numbers.{input_bytes}
-use Rattle.inputs.specs.Events.{Good, refusal_of, WrittenOut, span, after, input_at, ticks_at, broken, refusal_in, refusal_from, inputs_in, inputs_from}
+use Rattle.turns.specs.declared.vocabulary.Input.{Input}
+use Rattle.inputs.specs.Events.{peeked, length_of, ticks_of, Good, refusal_of, WrittenOut, span, after, input_at, ticks_at, broken, refusal_in, refusal_from, inputs_in, inputs_from}
 
 span_some : (k : ℕ) → 3 ≤ span k
 span_some k = cond_both (eqb k 0) _ _ (λ n. 3 ≤ n) (λ _. omega arith) (λ _. cond_both (eqb k 1) _ _ (λ n. 3 ≤ n) (λ _. omega arith) (λ _. omega arith))
@@ -58,6 +61,22 @@ inputs_step bs i h = inputs_open (length bs) bs i (omega arith) h
 pub inputs_end : (bs : List ℕ) (i : ℕ) → length bs ≤ i → inputs_from bs i ≡ []
 unfolding inputs_from inputs_in
 inputs_end bs i h = inputs_same (length bs) 0 bs i (omega arith) (omega arith)
+
+-- what a look at an input says of it
+peeked_both : (bs : List ℕ) (i : ℕ) (P : Option Input → Type 0) → (broken bs i ≡ true → P None) → (broken bs i ≡ false → P (Some (input_at bs i))) → P (peeked bs i)
+peeked_both bs i P f g = cond_both (broken bs i) None (Some (input_at bs i)) P f g
+
+pub peeked_none : (bs : List ℕ) (i : ℕ) → None ≡ peeked bs i → broken bs i ≡ true
+peeked_none bs i = peeked_both bs i (λ o. None ≡ o → broken bs i ≡ true) (λ b _. b) (λ _ e. absurd (none-some _ e))
+
+pub peeked_some : (bs : List ℕ) (i : ℕ) (x : Input) → Some x ≡ peeked bs i → (broken bs i ≡ false) × (x ≡ input_at bs i)
+peeked_some bs i x = peeked_both bs i (λ o. Some x ≡ o → (broken bs i ≡ false) × (x ≡ input_at bs i)) (λ _ e. absurd (none-some x (sym e))) (λ b e. (b, same_Some _ _ e))
+
+pub ticks_same : (bs : List ℕ) (i : ℕ) → ticks_of (input_at bs i) ≡ ticks_at bs i
+ticks_same bs i = grind (arith, common_steps)
+
+pub after_same : (bs : List ℕ) (i : ℕ) → i + length_of (input_at bs i) ≡ after bs i
+after_same bs i = grind (arith, common_steps)
 
 pub refused_broken : (bs : List ℕ) (i t : ℕ) → i < length bs → broken bs i ≡ true → refusal_from bs i t ≡ Some i
 refused_broken bs i t h b = refusal_step bs i t h ∙ cond-true _ _ _ (or_left _ _ b)

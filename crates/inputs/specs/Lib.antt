@@ -1,7 +1,8 @@
 pub mod Events
 pub mod Texts
 pub mod Lines
-pub mod Names
+pub mod Walks
 pub mod Lists
 pub mod Scripts
 pub mod Refusals
+pub mod Messages

@@ -1,24 +1,44 @@
 // Rows of events as bytes: one input after the other, and where such a row is refused.
-ghost use Rattle.std.specs.Prelude.{◌≡◌, ◌+◌, ◌^◌, ◌<◌, ◌≤◌, true, false, length, None};
-ghost use Rattle.inputs.specs.Events.{after, input_at, ticks_at, broken, refusal_of, WrittenOut};
+ghost use Rattle.std.specs.Prelude.{◌≡◌, ◌+◌, ◌^◌, ◌<◌, ◌≤◌, false, length, None};
+ghost use Rattle.inputs.specs.Events.{after, input_at, broken, peeked, length_of, ticks_of, refusal_of, WrittenOut};
 
-use octets::word;
 use turns::vocabulary::Input;
 
 // At most so many ticks may a row have.
 const MOST_TICKS: u64 = 0x1_0000_0000_0000;
 
-// Whether no input stands at `i`: there is no such kind, or it is cut short.
-fn is_broken(events: &[u8], i: usize) -> bool
-    requires { i < length events.now }
-    ensures { result ≡ broken events.now i }
+// The input at `i`; none if there is no such kind, or it is cut short.
+fn peek(events: &[u8], i: usize) -> Option<Input>
+    requires within { i < length events.now }
+    ensures { result ≡ peeked events.now i }
 {
-    let rest = events.len() - i;
-    match events[i] {
-        0 => rest < 5,
-        1 => rest < 3,
-        2 => rest < 6,
-        _ => true,
+    match &events[i..] {
+        [0, a, b, c, d, ..] => Some(Input::Ticks(u32::from_le_bytes([*a, *b, *c, *d]))),
+        [1, screen, key, ..] => Some(Input::Key(*screen, *key)),
+        [2, a, b, c, d, fill, ..] => Some(Input::Cut(u32::from_le_bytes([*a, *b, *c, *d]), *fill)),
+        _ => None,
+    }
+}
+
+// How many bytes an input has.
+fn length_of(input: Input) -> usize
+    ensures { result ≡ length_of input }
+{
+    match input {
+        Input::Ticks(_) => 5,
+        Input::Key(_, _) => 3,
+        Input::Cut(_, _) => 6,
+    }
+}
+
+// How many ticks an input brings.
+fn ticks_of(input: Input) -> u32
+    ensures value { result ≡ ticks_of input }
+    ensures bound { result < 2 ^ 32 }
+{
+    match input {
+        Input::Ticks(n) => n,
+        Input::Key(_, _) | Input::Cut(_, _) => 0,
     }
 }
 
@@ -30,11 +50,7 @@ pub fn after_input(events: &[u8], i: usize) -> usize
     ensures within { result ≤ length events.now }
     ensures more { i < result }
 {
-    match events[i] {
-        0 => i + 5,
-        1 => i + 3,
-        _ => i + 6,
-    }
+    i + length_of(read_input(events, i))
 }
 
 // The input at `i`.
@@ -43,24 +59,7 @@ pub fn read_input(events: &[u8], i: usize) -> Input
     requires whole { broken events.now i ≡ false }
     ensures { result ≡ input_at events.now i }
 {
-    match events[i] {
-        0 => Input::Ticks(word(events, i + 1)),
-        1 => Input::Key(events[i + 1], events[i + 2]),
-        _ => Input::Cut(word(events, i + 1), events[i + 5]),
-    }
-}
-
-// How many ticks the input at `i` brings.
-fn ticks_of(events: &[u8], i: usize) -> u32
-    requires within { i < length events.now }
-    requires whole { broken events.now i ≡ false }
-    ensures value { result ≡ ticks_at events.now i }
-    ensures bound { result < 2 ^ 32 }
-{
-    match events[i] {
-        0 => word(events, i + 1),
-        _ => 0,
-    }
+    peek(events, i).unwrap()
 }
 
 // The first byte of the first event that is refused; none if the row is well-formed, and then it is just its inputs, written out one after the other.
@@ -68,19 +67,18 @@ pub fn refused(events: &[u8]) -> Option<usize>
     ensures place { result ≡ refusal_of events.now }
     ensures whole { result ≡ None → WrittenOut events.now }
 {
-    let most = MOST_TICKS;
     let mut i = 0;
     let mut total: u64 = 0;
+    // `i` is the answer, and goes on by the length of the input that was read there: neither a range nor a chain counts so.
     while i < events.len() {
-        if is_broken(events, i) {
+        let Some(input) = peek(events, i) else {
+            return Some(i);
+        };
+        total += ticks_of(input) as u64;
+        if total > MOST_TICKS {
             return Some(i);
         }
-        let n = ticks_of(events, i);
-        total += n as u64;
-        if total > most {
-            return Some(i);
-        }
-        i = after_input(events, i);
+        i += length_of(input);
     }
     None
 }

@@ -2,9 +2,9 @@
 #![tactic(auto)]
 
 pub mod events;
+mod lines;
 pub mod lists;
 pub mod messages;
-pub mod names;
+mod numbers;
 pub mod refusals;
 pub mod scripts;
-mod seeking;

@@ -1,13 +1,16 @@
 // Lists: the text from which discs are made. A line gives a size by its name, as `processes 2`, or the contents of a file, as `put 0 PATH`; `#` begins a comment.
-ghost use Rattle.std.specs.Prelude.{◌≡◌, ◌+◌, ◌<◌, ◌≤◌, length, IfOk};
-ghost use Rattle.inputs.specs.Lists.{part, span_at, size_entry, put_entry, entry_of, EndsBy, unsaid, Said, given, named, said, first_missing, is_strange, first_strange, finished, list_of, PathsWithin};
+ghost use Rattle.std.specs.Prelude.{◌≡◌, ◌+◌, ◌<◌, ◌≤◌, map, length, IfSome, IfOk};
+ghost use Rattle.std.specs.Option.{unwrap_or};
+ghost use Rattle.inputs.specs.Texts.{is_hash, found};
+ghost use Rattle.inputs.specs.Lists.{part, span_at, size_entry, put_entry, entry_of, EndsBy, unsaid, Said, ReadIn, given, named, said, first_missing, first_strange, finished, list_of, PathsWithin};
 
-use crate::names::SizeName;
-use crate::seeking::{Seek, find, is, number};
+use crate::lines::{Line, Lines, check_end};
+use crate::numbers::number;
+use turns::sizes::SizeName;
 use turns::vocabulary::Sizes;
 
-// A part of a text, from a place up to before another.
-#[derive(Clone, Copy)]
+// A part of a text, from a place up to before another. No `&[u8]` is it, since a list is said by an equation of values, which one with a borrow in it has not.
+#[derive(Clone, Copy, Debug, PartialEq, Eq)]
 pub struct Span {
     pub from: usize,
     pub to: usize,
@@ -20,30 +23,28 @@ impl Span {
         requires within { self.to ≤ length text.now }
         ensures { result.now ≡ part text.now self }
     {
-        let from = self.from;
-        let to = self.to;
-        &text[from..to]
+        &text[self.from..self.to]
     }
 }
 
 // Where the contents of a file come from: the path in the list's text, and the line that it stands in.
-#[derive(Clone, Copy)]
+#[derive(Clone, Copy, Debug, PartialEq, Eq)]
 pub struct Put {
     pub line: usize,
     pub path: Span,
 }
 
 // What a list says: the sizes, and for each file where its contents come from; a file with none is empty.
-#[derive(Clone, Copy)]
+#[derive(Clone, Copy, Debug, PartialEq, Eq)]
 pub struct DiscList {
     pub sizes: Sizes,
-    // the line in which each size was given
+    // the line in which each size was given; `Sizes` is also what is on a disc, where there are no lines
     pub lines: [usize; 10],
     pub puts: [Option<Put>; 64],
 }
 
 // What is wrong with a list.
-#[derive(Clone, Copy)]
+#[derive(Clone, Copy, Debug, PartialEq, Eq)]
 pub enum Reason {
     UnknownWord,
     NoNumber,
@@ -56,100 +57,66 @@ pub enum Reason {
 }
 
 // And where: its line; a size that is missing is missed behind the last.
-#[derive(Clone, Copy)]
+#[derive(Clone, Copy, Debug, PartialEq, Eq)]
 pub struct Fault {
     pub line: usize,
     pub reason: Reason,
 }
 
-// What one line says.
-#[derive(Clone, Copy)]
+// What a line says, if it says anything.
+#[derive(Clone, Copy, Debug, PartialEq, Eq)]
 pub(crate) enum Entry {
-    Nothing,
     Size(SizeName, u32),
     Put(u32, Span),
-    Wrong(Reason),
 }
 
-// What the lines so far have said: the sizes, the line in which each was given (0 if it was not), and the files.
+// What the lines so far have said: the sizes, the line in which each was given if it was, and the files.
 #[derive(Clone, Copy)]
 pub(crate) struct Draft {
     sizes: Sizes,
-    lines: [usize; 10],
+    lines: [Option<usize>; 10],
     puts: [Option<Put>; 64],
 }
 
-// The word that begins at or behind a place, before another.
-pub(crate) fn word_at(text: &[u8], from: usize, to: usize) -> Span
-    requires order { from ≤ to }
-    requires within { to ≤ length text.now }
-    ensures place { result ≡ span_at text.now from to }
-    ensures behind { from ≤ result.from }
-    ensures order { result.from ≤ result.to }
-    ensures within { result.to ≤ to }
-{
-    let from = find(text, from, to, Seek::Word);
-    let to = find(text, from, to, Seek::Blank);
-    Span { from, to }
-}
-
 // A size: its name, a number, and nothing more.
-fn size_entry(name: SizeName, value: Option<u32>, more: bool) -> Entry
+fn size_entry(name: SizeName, value: Option<u32>, more: bool) -> Result<Option<Entry>, Reason>
     ensures { result ≡ size_entry name value more }
 {
-    match value {
-        None => Entry::Wrong(Reason::NoNumber),
-        Some(n) => {
-            if more {
-                Entry::Wrong(Reason::TooManyWords)
-            } else {
-                Entry::Size(name, n)
-            }
-        }
-    }
+    let n = value.ok_or(Reason::NoNumber)?;
+    check_end(!more, Reason::TooManyWords)?;
+    Ok(Some(Entry::Size(name, n)))
 }
 
 // Contents: the number of a file, a path, and nothing more.
-fn put_entry(file: Option<u32>, path: Span, more: bool) -> Entry
+fn put_entry(file: Option<u32>, path: Span, more: bool) -> Result<Option<Entry>, Reason>
     ensures { result ≡ put_entry file path more }
 {
-    match file {
-        None => Entry::Wrong(Reason::NoNumber),
-        Some(f) => {
-            if path.from == path.to {
-                Entry::Wrong(Reason::NoPath)
-            } else if more {
-                Entry::Wrong(Reason::TooManyWords)
-            } else {
-                Entry::Put(f, path)
-            }
-        }
+    let f = file.ok_or(Reason::NoNumber)?;
+    if path.from == path.to {
+        return Err(Reason::NoPath);
     }
+    check_end(!more, Reason::TooManyWords)?;
+    Ok(Some(Entry::Put(f, path)))
 }
 
-// What the line says that is in a text from a place up to before another; its comment is not in there.
-fn read_entry(text: &[u8], from: usize, to: usize) -> Entry
-    requires order { from ≤ to }
-    requires within { to ≤ length text.now }
-    ensures value { result ≡ entry_of text.now from to }
-    ensures within { EndsBy to result }
+// What a line says; its comment is not in there.
+fn read_entry(line: Line) -> Result<Option<Entry>, Reason>
+    ensures value { result ≡ entry_of line.entry.text.now line.entry.at line.entry.end }
+    ensures within { EndsBy line.entry.end result }
 {
-    let first = word_at(text, from, to);
-    if first.from == to {
-        return Entry::Nothing;
+    if line.is_blank() {
+        return Ok(None);
     }
-    let second = word_at(text, first.to, to);
-    let third = word_at(text, second.to, to);
-    let value = number(second.of(text));
-    let word = first.of(text);
-    if is(word, b"put") {
-        let more = word_at(text, third.to, to).from < to;
-        return put_entry(value, third, more);
+    let text = line.text;
+    let mut rest = line;
+    let word = rest.take_word().of(text);
+    let value = number(rest.take_word().of(text));
+    if word == b"put".as_slice() {
+        let path = rest.take_word();
+        return put_entry(value, path, !rest.is_blank());
     }
-    match SizeName::of(word) {
-        None => Entry::Wrong(Reason::UnknownWord),
-        Some(name) => size_entry(name, value, third.from < to),
-    }
+    let name = SizeName::of(word).ok_or(Reason::UnknownWord)?;
+    size_entry(name, value, !rest.is_blank())
 }
 
 impl Draft {
@@ -171,116 +138,105 @@ impl Draft {
         };
         Draft {
             sizes,
-            lines: [0; 10],
+            lines: [None; 10],
             puts: [None; 64],
         }
     }
 
     // A size is given in a line; it may not have been given before.
     fn give(&mut self, line: usize, name: SizeName, n: u32) -> Result<(), Reason>
-        requires { length self.old.lines ≡ 10 }
         ensures value { Said result (given self.old line name n) self.new }
     {
-        let place = name.place();
-        if self.lines[place] != 0 {
+        let given = &mut self.lines[name.place()];
+        if given.is_some() {
             return Err(Reason::Twice(name));
         }
-        self.lines[place] = line;
-        name.put(&mut self.sizes, n);
+        *given = Some(line);
+        self.sizes.put(name, n);
         Ok(())
     }
 
     // The contents of a file are named in a line; they may not have been named before.
     fn name(&mut self, line: usize, file: u32, path: Span) -> Result<(), Reason>
-        requires { length self.old.puts ≡ 64 }
         ensures value { Said result (named self.old line file path) self.new }
     {
         if file >= 64 {
             return Err(Reason::NoSuchFile(file));
         }
-        let place = file as usize;
-        if self.puts[place].is_some() {
+        let put = &mut self.puts[file as usize];
+        if put.is_some() {
             return Err(Reason::FileTwice(file));
         }
-        self.puts[place] = Some(Put { line, path });
+        *put = Some(Put { line, path });
         Ok(())
     }
 
     // What a line says is added.
-    fn add(&mut self, line: usize, entry: Entry) -> Result<(), Reason>
-        requires lines { length self.old.lines ≡ 10 }
-        requires puts { length self.old.puts ≡ 64 }
-        ensures value { Said result (said self.old line entry) self.new }
+    fn add(&mut self, number: usize, line: Line) -> Result<(), Reason>
+        ensures value { Said result (said self.old number (entry_of line.entry.text.now line.entry.at line.entry.end)) self.new }
+        ensures within { EndsBy line.entry.end (entry_of line.entry.text.now line.entry.at line.entry.end) }
     {
-        match entry {
-            Entry::Nothing => Ok(()),
-            Entry::Size(name, n) => self.give(line, name, n),
-            Entry::Put(file, path) => self.name(line, file, path),
-            Entry::Wrong(reason) => Err(reason),
+        match read_entry(line)? {
+            None => Ok(()),
+            Some(Entry::Size(name, n)) => self.give(number, name, n),
+            Some(Entry::Put(file, path)) => self.name(number, file, path),
         }
     }
 
-    // The place of the first size that was not given; 10 if all were.
-    fn missing(&self) -> usize
-        requires { length self.now.lines ≡ 10 }
+    // What a line of a list says is added; what is wrong is wrong in that line.
+    fn read(&mut self, number: usize, line: Line) -> Result<(), Fault>
+        ensures value { ReadIn number result (said self.old number (entry_of line.entry.text.now line.entry.at (found is_hash line.entry.text.now line.entry.at line.entry.end))) self.new }
+        ensures within { let end = found is_hash line.entry.text.now line.entry.at line.entry.end in EndsBy end (entry_of line.entry.text.now line.entry.at end) }
+    {
+        self.add(number, line.without_comment())
+            .map_err(|reason| Fault {
+                line: number,
+                reason,
+            })
+    }
+
+    // The first size that was not given.
+    fn missing(&self) -> Option<SizeName>
         ensures { result ≡ first_missing self.now }
     {
-        for i in 0..10 {
-            if self.lines[i] == 0 {
-                return i;
-            }
-        }
-        10
+        SizeName::ALL
+            .iter()
+            .copied()
+            .find(|name| self.lines[name.place()].is_none())
     }
 
-    // Whether a file has contents, and there is no such file.
-    fn is_strange(&self, f: usize) -> bool
-        requires puts { length self.now.puts ≡ 64 }
-        requires within { f < 64 }
-        ensures { result ≡ is_strange self.now f }
+    // The number of the first file that has contents, though there is no such file.
+    fn strange(&self) -> Option<usize>
+        ensures value { result ≡ first_strange self.now }
+        ensures within { IfSome result (λ f. f < 64) }
     {
-        self.puts[f].is_some() && f as u32 >= self.sizes.files
+        (0..64).find(|&f| self.puts[f].is_some() && f >= self.sizes.files as usize)
     }
 
-    // The number of the first such file; 64 if there is none.
-    fn strange(&self) -> usize
-        requires { length self.now.puts ≡ 64 }
-        ensures { result ≡ first_strange self.now }
+    // The lines in which the sizes were given.
+    fn given_in(&self) -> [usize; 10]
+        ensures { result ≡ map (λ line. unwrap_or line 0) self.now.lines }
     {
-        for f in 0..64 {
-            if self.is_strange(f) {
-                return f;
-            }
-        }
-        64
+        self.lines.map(|line| line.unwrap_or(0))
     }
 
     // What the list says, if nothing is missing; `line` is the one behind the last.
     fn finish(&self, line: usize) -> Result<DiscList, Fault>
-        requires lines { length self.now.lines ≡ 10 }
-        requires puts { length self.now.puts ≡ 64 }
         ensures { result ≡ finished self.now line }
     {
-        let place = self.missing();
-        if place < 10 {
-            let reason = Reason::Missing(SizeName::at(place));
+        if let Some(name) = self.missing() {
+            let reason = Reason::Missing(name);
             return Err(Fault { line, reason });
         }
-        let file = self.strange();
-        if file < 64 {
-            let line = match self.puts[file] {
-                Some(put) => put.line,
-                None => 0,
-            };
-            let reason = Reason::NoSuchFile(file as u32);
+        if let Some(f) = self.strange() {
+            let line = self.puts[f].map_or(0, |put| put.line);
+            let reason = Reason::NoSuchFile(f as u32);
             return Err(Fault { line, reason });
         }
-        let lines = self.lines;
-        let puts = self.puts;
         Ok(DiscList {
             sizes: self.sizes,
-            lines,
-            puts,
+            lines: self.given_in(),
+            puts: self.puts,
         })
     }
 }
@@ -291,17 +247,10 @@ pub fn read_list(text: &[u8]) -> Result<DiscList, Fault>
     ensures paths { IfOk result (λ l. PathsWithin (length text.now) l.puts) }
 {
     let mut draft = Draft::new();
-    let mut line = 1;
-    let mut i = 0;
-    while i < text.len() {
-        let end = find(text, i, text.len(), Seek::LineEnd);
-        let to = find(text, i, end, Seek::Comment);
-        match draft.add(line, read_entry(text, i, to)) {
-            Ok(()) => {}
-            Err(reason) => return Err(Fault { line, reason }),
-        }
-        line += 1;
-        i = end + 1;
+    let mut behind = 1;
+    for (number, line) in Lines::of(text) {
+        draft.read(number, line)?;
+        behind = number + 1;
     }
-    draft.finish(line)
+    draft.finish(behind)
 }

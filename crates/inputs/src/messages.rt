@@ -1,27 +1,14 @@
 // What is wrong with a list or a script, in words.
-use crate::lists::Reason;
-use crate::names::SizeName;
+ghost use Rattle.std.specs.Prelude.{Some};
+ghost use Rattle.inputs.specs.Messages.{reason_words, fault_words, wrong_words};
+
+use crate::lists::{Fault, Reason};
 use crate::scripts::Wrong;
 use std::fmt;
 
-impl fmt::Display for SizeName {
-    fn fmt<W: fmt::Write>(&self, f: &mut fmt::Formatter<W>) -> fmt::Result {
-        match self {
-            SizeName::Processes => write!(f, "processes"),
-            SizeName::Opens => write!(f, "opens"),
-            SizeName::Pipes => write!(f, "pipes"),
-            SizeName::Handles => write!(f, "handles"),
-            SizeName::Memory => write!(f, "memory"),
-            SizeName::Pipe => write!(f, "pipe"),
-            SizeName::File => write!(f, "file"),
-            SizeName::Files => write!(f, "files"),
-            SizeName::Screens => write!(f, "screens"),
-            SizeName::Turn => write!(f, "turn"),
-        }
-    }
-}
-
 impl fmt::Display for Reason {
+    ghost output = { λ reason. Some (reason_words reason) };
+
     fn fmt<W: fmt::Write>(&self, f: &mut fmt::Formatter<W>) -> fmt::Result {
         match self {
             Reason::UnknownWord => write!(
@@ -39,7 +26,17 @@ impl fmt::Display for Reason {
     }
 }
 
+impl fmt::Display for Fault {
+    ghost output = { λ fault. Some (fault_words fault) };
+
+    fn fmt<W: fmt::Write>(&self, f: &mut fmt::Formatter<W>) -> fmt::Result {
+        write!(f, "{}: {}", self.line, self.reason)
+    }
+}
+
 impl fmt::Display for Wrong {
+    ghost output = { λ wrong. Some (wrong_words wrong) };
+
     fn fmt<W: fmt::Write>(&self, f: &mut fmt::Formatter<W>) -> fmt::Result {
         match self {
             Wrong::UnknownWord => write!(

@@ -1,16 +1,17 @@
 // Scripts: rows of events as text. A line is `ticks 20`, `key 0 k` (one printable character, or a byte by its number, as `#107`) or `cut 3 255`; `#` begins a
 // comment.
-ghost use Rattle.std.specs.Prelude.{◌≡◌, ◌+◌, ◌<◌, ◌≤◌, ◌++◌, length, OnOk};
+ghost use Rattle.std.specs.Prelude.{◌≡◌, ◌++◌, OnOk};
 ghost use Rattle.turns.specs.Numbers.{input_bytes};
-ghost use Rattle.inputs.specs.Scripts.{byte_of, is_printable, is_numbered, key_of, is_over, ticks_line, key_line, cut_line, line_of, ScriptRead};
+ghost use Rattle.inputs.specs.Scripts.{byte_of, key_of, is_over, ticks_line, key_line, cut_line, line_of, in_line, ScriptRead};
+ghost use Rattle.inputs.specs.declared.scripts.ScriptError.TheVariants.{NoMemory};
 
-use crate::lists::{Span, word_at};
-use crate::seeking::{Seek, find, is, number};
+use crate::lines::{Line, Lines, check_end};
+use crate::numbers::number;
 use std::alloc::{AllocError, Global};
 use turns::vocabulary::Input;
 
 // What is wrong with a line of a script.
-#[derive(Clone, Copy)]
+#[derive(Clone, Copy, Debug, PartialEq, Eq)]
 pub enum Wrong {
     UnknownWord,
     NoNumber,
@@ -19,142 +20,103 @@ pub enum Wrong {
     TooManyWords,
 }
 
-// What one line says.
-#[derive(Clone, Copy)]
-pub(crate) enum Line {
-    Nothing,
-    Feed(Input),
-    Bad(Wrong),
-}
-
 // The byte whose number a word writes.
 fn byte_of(word: &[u8]) -> Option<u8>
     ensures { result ≡ byte_of word.now }
 {
-    match number(word) {
-        Some(n) => { if n < 256 { Some(n as u8) } else { None } }
-        None => None,
-    }
-}
-
-// Whether a word is one printable character.
-fn is_printable(word: &[u8]) -> bool
-    ensures { result ≡ is_printable word.now }
-{
-    word.len() == 1 && word[0] > b' ' && word[0] <= b'~'
-}
-
-// Whether a word is a `#` with something behind it.
-fn is_numbered(word: &[u8]) -> bool
-    ensures { result ≡ is_numbered word.now }
-{
-    word.len() > 1 && word[0] == b'#'
+    u8::try_from(number(word)?).ok()
 }
 
 // The key that a word stands for: itself, if it is one printable character; else, behind a `#`, the number of a byte.
 fn key_of(word: &[u8]) -> Option<u8>
     ensures { result ≡ key_of word.now }
 {
-    if is_printable(word) {
-        return Some(word[0]);
+    match word {
+        [key @ b'!'..=b'~'] => Some(*key),
+        [b'#', number @ ..] => byte_of(number),
+        _ => None,
     }
-    if is_numbered(word) {
-        return byte_of(&word[1..word.len()]);
-    }
-    None
 }
 
 // Whether there is no more in a line: only blanks, or a comment.
-fn is_over(text: &[u8], from: usize, to: usize) -> bool
-    requires order { from ≤ to }
-    requires within { to ≤ length text.now }
-    ensures { result ≡ is_over text.now from to }
+fn is_over(line: &Line) -> bool
+    ensures { result ≡ is_over line.now.text.now line.now.at line.now.end }
 {
-    let next = word_at(text, from, to).from;
-    next == to || text[next] == b'#'
+    let next = line.word().from;
+    next == line.end || line.text[next] == b'#'
 }
 
 // A number of ticks, and nothing more.
-fn ticks_line(n: Option<u32>, over: bool) -> Line
+fn ticks_line(n: Option<u32>, over: bool) -> Result<Option<Input>, Wrong>
     ensures { result ≡ ticks_line n over }
 {
-    match n {
-        None => Line::Bad(Wrong::NoNumber),
-        Some(n) => {
-            if over {
-                Line::Feed(Input::Ticks(n))
-            } else {
-                Line::Bad(Wrong::TooManyWords)
-            }
-        }
-    }
+    let n = n.ok_or(Wrong::NoNumber)?;
+    check_end(over, Wrong::TooManyWords)?;
+    Ok(Some(Input::Ticks(n)))
 }
 
 // A key: a screen, what is typed there, and nothing more.
-fn key_line(screen: Option<u8>, key: Option<u8>, over: bool) -> Line
+fn key_line(screen: Option<u8>, key: Option<u8>, over: bool) -> Result<Option<Input>, Wrong>
     ensures { result ≡ key_line screen key over }
 {
-    match (screen, key) {
-        (None, _) => Line::Bad(Wrong::NoByte),
-        (Some(_), None) => Line::Bad(Wrong::NoKey),
-        (Some(t), Some(b)) => {
-            if over {
-                Line::Feed(Input::Key(t, b))
-            } else {
-                Line::Bad(Wrong::TooManyWords)
-            }
-        }
-    }
+    let screen = screen.ok_or(Wrong::NoByte)?;
+    let key = key.ok_or(Wrong::NoKey)?;
+    check_end(over, Wrong::TooManyWords)?;
+    Ok(Some(Input::Key(screen, key)))
 }
 
 // A cut: how many writes are done, the byte that fills the block of the next, and nothing more.
-fn cut_line(done: Option<u32>, fill: Option<u8>, over: bool) -> Line
+fn cut_line(done: Option<u32>, fill: Option<u8>, over: bool) -> Result<Option<Input>, Wrong>
     ensures { result ≡ cut_line done fill over }
 {
-    match (done, fill) {
-        (None, _) => Line::Bad(Wrong::NoNumber),
-        (Some(_), None) => Line::Bad(Wrong::NoByte),
-        (Some(m), Some(b)) => {
-            if over {
-                Line::Feed(Input::Cut(m, b))
-            } else {
-                Line::Bad(Wrong::TooManyWords)
-            }
-        }
-    }
+    let done = done.ok_or(Wrong::NoNumber)?;
+    let fill = fill.ok_or(Wrong::NoByte)?;
+    check_end(over, Wrong::TooManyWords)?;
+    Ok(Some(Input::Cut(done, fill)))
 }
 
-// What the line says that is in a text from a place up to before another.
-fn read_line(text: &[u8], from: usize, to: usize) -> Line
-    requires order { from ≤ to }
-    requires within { to ≤ length text.now }
-    ensures { result ≡ line_of text.now from to }
+// What a line says.
+fn read_line(line: Line) -> Result<Option<Input>, Wrong>
+    ensures { result ≡ line_of line.entry.text.now line.entry.at line.entry.end }
 {
-    if is_over(text, from, to) {
-        return Line::Nothing;
+    if is_over(&line) {
+        return Ok(None);
     }
-    let first = word_at(text, from, to);
-    let second = word_at(text, first.to, to);
-    let third = word_at(text, second.to, to);
-    let word = first.of(text);
-    if is(word, b"ticks") {
-        return ticks_line(number(second.of(text)), is_over(text, second.to, to));
+    let text = line.text;
+    let mut rest = line;
+    let word = rest.take_word().of(text);
+    let second = rest.take_word().of(text);
+    let behind_two = is_over(&rest);
+    let third = rest.take_word().of(text);
+    let behind_three = is_over(&rest);
+    match word {
+        b"ticks" => ticks_line(number(second), behind_two),
+        b"key" => key_line(byte_of(second), key_of(third), behind_three),
+        b"cut" => cut_line(number(second), byte_of(third), behind_three),
+        _ => Err(Wrong::UnknownWord),
     }
-    let over = is_over(text, third.to, to);
-    if is(word, b"key") {
-        return key_line(byte_of(second.of(text)), key_of(third.of(text)), over);
-    }
-    if is(word, b"cut") {
-        return cut_line(number(second.of(text)), byte_of(third.of(text)), over);
-    }
-    Line::Bad(Wrong::UnknownWord)
 }
 
 // Why a script is not read: a line is wrong, or there is no memory for its events.
-#[derive(Clone, Copy)]
+#[derive(Clone, Copy, Debug, PartialEq, Eq)]
 pub enum ScriptError {
     Line(usize, Wrong),
     NoMemory,
+}
+
+impl From<AllocError> for ScriptError {
+    ghost from_gives = { λ _ e. e ≡ NoMemory };
+
+    fn from(_e: AllocError) -> ScriptError {
+        ScriptError::NoMemory
+    }
+}
+
+// What the line with this number says; what is wrong is wrong in that line.
+fn read_numbered(number: usize, line: Line) -> Result<Option<Input>, ScriptError>
+    ensures { result ≡ in_line number (line_of line.entry.text.now line.entry.at line.entry.end) }
+{
+    read_line(line).map_err(|wrong| ScriptError::Line(number, wrong))
 }
 
 // The bytes of an input are put behind others.
@@ -179,20 +141,11 @@ pub fn read_script(heap: Global, text: &[u8]) -> Result<Vec<u8>, ScriptError>
     ensures { ScriptRead text.now result }
 {
     let mut out = Vec::new(heap);
-    let mut line: usize = 1;
-    let mut i = 0;
-    while i < text.len() {
-        let end = find(text, i, text.len(), Seek::LineEnd);
-        match read_line(text, i, end) {
-            Line::Nothing => {}
-            Line::Feed(input) => match push_input(&mut out, input) {
-                Ok(()) => {}
-                Err(_) => return Err(ScriptError::NoMemory),
-            },
-            Line::Bad(wrong) => return Err(ScriptError::Line(line, wrong)),
-        }
-        line += 1;
-        i = end + 1;
+    for (number, line) in Lines::of(text) {
+        let Some(input) = read_numbered(number, line)? else {
+            continue;
+        };
+        push_input(&mut out, input)?;
     }
     Ok(out)
 }

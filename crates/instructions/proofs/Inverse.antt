@@ -1,22 +1,18 @@
 -- Decoding and encoding are inverse to one another.
-use Rattle.std.proofs.Common.{◌≡◌, ℕ, ◌+◌, ◌*◌, ◌/◌, ◌%◌, ◌^◌, ◌<◌, Bool, true, false, cond, eqb, ℤ, pos, negsuc, ◌≤ℤ◌, ◌<ℤ◌, IfSome, Some, None, Option, sym, refl, ap, ◌∙◌, subst, arith}
-use Rattle.std.proofs.lemmas.Bool.{false≢true, cond_both, eqb-true}
+use Rattle.std.proofs.Common.{◌≡◌, ℕ, ◌+◌, ◌*◌, ◌/◌, ◌%◌, ◌^◌, ◌<◌, Bool, true, false, cond, if◌then◌else◌, eqb, ℤ, pos, negsuc, ◌≤ℤ◌, ◌<ℤ◌, IfSome, Some, None, Option, sym, refl, ap, ◌∙◌, subst, arith, rules}
+use Rattle.std.proofs.lemmas.Bool.{cond_both, eqb-true}
 use Rattle.std.specs.Option.{option_map}
 use Rattle.std.proofs.lemmas.Int.{ints}
 use Rattle.std.proofs.lemmas.Bool.Decides.{nat_tests}
 use Rattle.instructions.specs.declared.instruction.Operation.{Operation}
-use Rattle.instructions.specs.declared.instruction.Operation.TheVariants.{Add, Sub, Sll, Slt, Sltu, Xor, Srl, Sra, Or, And}
 use Rattle.instructions.specs.declared.instruction.Condition.{Condition}
-use Rattle.instructions.specs.declared.instruction.Condition.TheVariants.{Eq, Ne, Lt, Ge, Ltu, Geu}
 use Rattle.instructions.specs.declared.instruction.LoadWidth.{LoadWidth}
-use Rattle.instructions.specs.declared.instruction.LoadWidth.TheVariants as L
 use Rattle.instructions.specs.declared.instruction.StoreWidth.{StoreWidth}
-use Rattle.instructions.specs.declared.instruction.StoreWidth.TheVariants as S
 use Rattle.instructions.specs.declared.instruction.Instruction.{Instruction}
 use Rattle.instructions.specs.declared.instruction.Instruction.TheVariants.{Lui, Auipc, Jal, Jalr, Branch, Load, Store, OpImm, Op, Fence, Ecall}
 use Rattle.instructions.specs.Fields.{opcode_of, rd_of, funct3_of, rs1_of, rs2_of, funct7_of, fm_of, pred_of, succ_of, upper_of, signed_of, word_of, imm_i, imm_s, imm_b, imm_j, bits_s, bits_b, bits_j}
 use Rattle.instructions.specs.Decode.{by_funct3, decode_of, op_imm_of, condition_of, load_width_of, store_width_of, operation_of}
-use Rattle.instructions.proofs.Formed.{Within, Amount, Formed, formed_true, true_formed}
+use Rattle.instructions.proofs.Formed.{Within, Amount, Fits, Formed, formed_true, true_formed}
 use Rattle.instructions.specs.Encode.{encoded, formed, encode_of, Inverse, low, packed, packed_i, condition_code, load_code, store_code, operation_code, operation_high, shifts}
 
 back_i : (z : ℤ) (x : ℕ) → Within 2048 z → x ≡ low z 4096 → signed_of 2048 x ≡ z
@@ -30,34 +26,6 @@ back_j : (z : ℤ) (x : ℕ) → Within 1048576 z → x ≡ low z 2097152 → si
 back_j z x h e = search (arith, ints, nat_tests)
 
 -- the fields of a packed word
-module _ (f7 rs2 rs1 f3 rd op : ℕ) (h7 : f7 < 128) (h2 : rs2 < 32) (h1 : rs1 < 32) (h3 : f3 < 8) (hd : rd < 32) (ho : op < 128) where
-  packed_opcode : opcode_of (packed f7 rs2 rs1 f3 rd op) ≡ op
-  packed_opcode = omega arith
-
-  packed_rd : rd_of (packed f7 rs2 rs1 f3 rd op) ≡ rd
-  packed_rd = omega arith
-
-  packed_funct3 : funct3_of (packed f7 rs2 rs1 f3 rd op) ≡ f3
-  packed_funct3 = omega arith
-
-  packed_rs1 : rs1_of (packed f7 rs2 rs1 f3 rd op) ≡ rs1
-  packed_rs1 = omega arith
-
-  packed_rs2 : rs2_of (packed f7 rs2 rs1 f3 rd op) ≡ rs2
-  packed_rs2 = omega arith
-
-  packed_funct7 : funct7_of (packed f7 rs2 rs1 f3 rd op) ≡ f7
-  packed_funct7 = omega arith
-
-  packed_imm_i : packed f7 rs2 rs1 f3 rd op / 1048576 ≡ f7 * 32 + rs2
-  packed_imm_i = omega arith
-
-  packed_bits_s : bits_s (packed f7 rs2 rs1 f3 rd op) ≡ f7 * 32 + rd
-  packed_bits_s = omega arith
-
-  packed_bits_b : bits_b (packed f7 rs2 rs1 f3 rd op) ≡ f7 / 64 * 4096 + rd % 2 * 2048 + f7 % 64 * 32 + rd / 2 * 2
-  packed_bits_b = omega arith
-
 record Has (f7 rs2 rs1 f3 rd op w : ℕ) : Type 0 where
   opcode : opcode_of w ≡ op
   dest : rd_of w ≡ rd
@@ -71,15 +39,15 @@ record Has (f7 rs2 rs1 f3 rd op w : ℕ) : Type 0 where
 
 has : (f7 rs2 rs1 f3 rd op : ℕ) → f7 < 128 → rs2 < 32 → rs1 < 32 → f3 < 8 → rd < 32 → op < 128 → Has f7 rs2 rs1 f3 rd op (packed f7 rs2 rs1 f3 rd op)
 has a b c d e f p q r s t u = record {
-  opcode = packed_opcode a b c d e f p q r s t u;
-  dest = packed_rd a b c d e f p q r s t u;
-  funct3 = packed_funct3 a b c d e f p q r s t u;
-  first = packed_rs1 a b c d e f p q r s t u;
-  second = packed_rs2 a b c d e f p q r s t u;
-  funct7 = packed_funct7 a b c d e f p q r s t u;
-  i_bits = packed_imm_i a b c d e f p q r s t u;
-  s_bits = packed_bits_s a b c d e f p q r s t u;
-  b_bits = packed_bits_b a b c d e f p q r s t u;
+  opcode = omega arith;
+  dest = omega arith;
+  funct3 = omega arith;
+  first = omega arith;
+  second = omega arith;
+  funct7 = omega arith;
+  i_bits = omega arith;
+  s_bits = omega arith;
+  b_bits = omega arith;
 }
 
 module _ (a b c d rd op : ℕ) (ha : a < 2) (hb : b < 1024) (hc : c < 2) (hd : d < 256) (hr : rd < 32) (ho : op < 128) where
@@ -111,68 +79,28 @@ dec_jal : (w rd : ℕ) (z : ℤ) → opcode_of w ≡ 0x6f → rd_of w ≡ rd →
 dec_jal w rd z p q r = rw (p, q, r)
 
 condition_back : (t : Condition) → condition_of (condition_code t) ≡ Some t
-condition_back Eq = refl
-condition_back Ne = refl
-condition_back Lt = refl
-condition_back Ge = refl
-condition_back Ltu = refl
-condition_back Geu = refl
+condition_back t = grind arith
 
 load_back : (t : LoadWidth) → load_width_of (load_code t) ≡ Some t
-load_back L.Byte = refl
-load_back L.Half = refl
-load_back L.Word = refl
-load_back L.ByteUnsigned = refl
-load_back L.HalfUnsigned = refl
+load_back t = search arith
 
 store_back : (t : StoreWidth) → store_width_of (store_code t) ≡ Some t
-store_back S.Byte = refl
-store_back S.Half = refl
-store_back S.Word = refl
+store_back t = search rules
 
 operation_back : (o : Operation) → operation_of (operation_high o) (operation_code o) ≡ Some o
-operation_back Add = refl
-operation_back Sub = refl
-operation_back Sll = refl
-operation_back Slt = refl
-operation_back Sltu = refl
-operation_back Xor = refl
-operation_back Srl = refl
-operation_back Sra = refl
-operation_back Or = refl
-operation_back And = refl
+operation_back o = grind arith
 
 condition_small : (t : Condition) → condition_code t < 8
-condition_small Eq = omega arith
-condition_small Ne = omega arith
-condition_small Lt = omega arith
-condition_small Ge = omega arith
-condition_small Ltu = omega arith
-condition_small Geu = omega arith
+condition_small t = grind arith
 
 load_small : (t : LoadWidth) → load_code t < 8
-load_small L.Byte = omega arith
-load_small L.Half = omega arith
-load_small L.Word = omega arith
-load_small L.ByteUnsigned = omega arith
-load_small L.HalfUnsigned = omega arith
+load_small t = grind arith
 
 store_small : (t : StoreWidth) → store_code t < 8
-store_small S.Byte = omega arith
-store_small S.Half = omega arith
-store_small S.Word = omega arith
+store_small t = grind arith
 
 operation_small : (o : Operation) → (operation_code o < 8) × (operation_high o < 128)
-operation_small Add = (omega arith, omega arith)
-operation_small Sub = (omega arith, omega arith)
-operation_small Sll = (omega arith, omega arith)
-operation_small Slt = (omega arith, omega arith)
-operation_small Sltu = (omega arith, omega arith)
-operation_small Xor = (omega arith, omega arith)
-operation_small Srl = (omega arith, omega arith)
-operation_small Sra = (omega arith, omega arith)
-operation_small Or = (omega arith, omega arith)
-operation_small And = (omega arith, omega arith)
+operation_small o = grind arith
 
 dec_jalr : (w rd rs1 : ℕ) (z : ℤ) → opcode_of w ≡ 0x67 → funct3_of w ≡ 0 → rd_of w ≡ rd → rs1_of w ≡ rs1 → imm_i w ≡ z → decode_of w ≡ Some (Jalr rd rs1 z)
 dec_jalr w rd rs1 z p q r s t = rw (p, q, r, s, t)
@@ -222,54 +150,37 @@ has_i z rs1 f3 rd op h1 h3 hd ho = has (low z 4096 / 32) (low z 32) rs1 f3 rd op
 imm_i_is : (z : ℤ) (rs1 f3 rd op w : ℕ) → Within 2048 z → Has (low z 4096 / 32) (low z 32) rs1 f3 rd op w → imm_i w ≡ z
 imm_i_is z rs1 f3 rd op w hz h = back_i z (w / 1048576) hz (h.i_bits ∙ halves (word_of z))
 
--- an operation on a register and an immediate, whose op is no shift
-abbrev is_plain : Operation → Bool
-is_plain Add = true
-is_plain Sub = false
-is_plain Sll = false
-is_plain Slt = true
-is_plain Sltu = true
-is_plain Xor = true
-is_plain Srl = false
-is_plain Sra = false
-is_plain Or = true
-is_plain And = true
+-- an operation on a register and an immediate, without and with a shift
+op_imm_plain : (o : Operation) (z : ℤ) → shifts o ≡ false → Fits o z → (w rd rs1 : ℕ) → funct3_of w ≡ operation_code o → rd_of w ≡ rd → rs1_of w ≡ rs1 → imm_i w ≡ z
+    → op_imm_of w ≡ Some (OpImm o rd rs1 z)
+op_imm_plain o z e g w rd rs1 p q r s = grind arith
 
-op_imm_plain : (o : Operation) → is_plain o ≡ true → (w rd rs1 : ℕ) (z : ℤ) → funct3_of w ≡ operation_code o → rd_of w ≡ rd → rs1_of w ≡ rs1 → imm_i w ≡ z → op_imm_of w ≡ Some (OpImm o rd rs1 z)
-op_imm_plain Add e w rd rs1 z p q r s = rw (p, q, r, s)
-op_imm_plain Sub e w rd rs1 z p q r s = absurd (false≢true e)
-op_imm_plain Sll e w rd rs1 z p q r s = absurd (false≢true e)
-op_imm_plain Slt e w rd rs1 z p q r s = rw (p, q, r, s)
-op_imm_plain Sltu e w rd rs1 z p q r s = rw (p, q, r, s)
-op_imm_plain Xor e w rd rs1 z p q r s = rw (p, q, r, s)
-op_imm_plain Srl e w rd rs1 z p q r s = absurd (false≢true e)
-op_imm_plain Sra e w rd rs1 z p q r s = absurd (false≢true e)
-op_imm_plain Or e w rd rs1 z p q r s = rw (p, q, r, s)
-op_imm_plain And e w rd rs1 z p q r s = rw (p, q, r, s)
+within : (o : Operation) (z : ℤ) → shifts o ≡ false → Fits o z → Within 2048 z
+within o z e g = grind arith
 
-back_plain : (o : Operation) (rd rs1 : ℕ) (z : ℤ) → is_plain o ≡ true → rd < 32 → rs1 < 32 → Within 2048 z → decode_of (packed_i z rs1 (operation_code o) rd 0x13) ≡ Some (OpImm o rd rs1 z)
+back_plain : (o : Operation) (rd rs1 : ℕ) (z : ℤ) → shifts o ≡ false → rd < 32 → rs1 < 32 → Fits o z → decode_of (packed_i z rs1 (operation_code o) rd 0x13) ≡ Some (OpImm o rd rs1 z)
 back_plain o rd rs1 z e hd h1 hz =
     let w = packed_i z rs1 (operation_code o) rd 0x13 in let h = has_i z rs1 (operation_code o) rd 0x13 h1 (operation_small o).0 hd (omega arith) in
-    dec_op_imm w (OpImm o rd rs1 z) h.opcode (op_imm_plain o e w rd rs1 z h.funct3 h.dest h.first (imm_i_is z rs1 (operation_code o) rd 0x13 w hz h))
+    dec_op_imm w (OpImm o rd rs1 z) h.opcode (op_imm_plain o z e hz w rd rs1 h.funct3 h.dest h.first (imm_i_is z rs1 (operation_code o) rd 0x13 w (within o z e hz) h))
 
 op_imm_shift : (o : Operation) → shifts o ≡ true → (w rd rs1 rs2 : ℕ) → funct7_of w ≡ operation_high o → funct3_of w ≡ operation_code o → rd_of w ≡ rd → rs1_of w ≡ rs1 → rs2_of w ≡ rs2 → op_imm_of w ≡ Some (OpImm o rd rs1 (pos rs2))
-op_imm_shift Add e w rd rs1 rs2 p q r s t = absurd (false≢true e)
-op_imm_shift Sub e w rd rs1 rs2 p q r s t = absurd (false≢true e)
-op_imm_shift Sll e w rd rs1 rs2 p q r s t = rw (p, q, r, s, t)
-op_imm_shift Slt e w rd rs1 rs2 p q r s t = absurd (false≢true e)
-op_imm_shift Sltu e w rd rs1 rs2 p q r s t = absurd (false≢true e)
-op_imm_shift Xor e w rd rs1 rs2 p q r s t = absurd (false≢true e)
-op_imm_shift Srl e w rd rs1 rs2 p q r s t = rw (p, q, r, s, t)
-op_imm_shift Sra e w rd rs1 rs2 p q r s t = rw (p, q, r, s, t)
-op_imm_shift Or e w rd rs1 rs2 p q r s t = absurd (false≢true e)
-op_imm_shift And e w rd rs1 rs2 p q r s t = absurd (false≢true e)
+op_imm_shift o e w rd rs1 rs2 p q r s t = grind arith
 
-back_shift : (o : Operation) (rd rs1 : ℕ) (z : ℤ) → shifts o ≡ true → rd < 32 → rs1 < 32 → Amount z → decode_of (packed (operation_high o) (low z 32) rs1 (operation_code o) rd 0x13) ≡ Some (OpImm o rd rs1 z)
+amount : (o : Operation) (z : ℤ) → shifts o ≡ true → Fits o z → Amount z
+amount o z e g = grind arith
+
+back_shift : (o : Operation) (rd rs1 : ℕ) (z : ℤ) → shifts o ≡ true → rd < 32 → rs1 < 32 → Fits o z → decode_of (packed (operation_high o) (low z 32) rs1 (operation_code o) rd 0x13) ≡ Some (OpImm o rd rs1 z)
 back_shift o rd rs1 z e hd h1 hz =
+    let a = amount o z e hz in
     let w = packed (operation_high o) (low z 32) rs1 (operation_code o) rd 0x13 in
     let h = has (operation_high o) (low z 32) rs1 (operation_code o) rd 0x13 (operation_small o).1 (omega arith) h1 (operation_small o).0 hd (omega arith) in
     let g : pos (low z 32) ≡ z = grind (arith, ints) in
     dec_op_imm w (OpImm o rd rs1 z) h.opcode (op_imm_shift o e w rd rs1 (low z 32) h.funct7 h.funct3 h.dest h.first h.second ∙ ap (λ y. Some (OpImm o rd rs1 y)) g)
+
+back_op_imm : (o : Operation) (rd rs1 : ℕ) (z : ℤ) (b : Bool) → shifts o ≡ b → rd < 32 → rs1 < 32 → Fits o z
+    → decode_of (if b then packed (operation_high o) (low z 32) rs1 (operation_code o) rd 0x13 else packed_i z rs1 (operation_code o) rd 0x13) ≡ Some (OpImm o rd rs1 z)
+back_op_imm o rd rs1 z true e hd h1 hz = back_shift o rd rs1 z e hd h1 hz
+back_op_imm o rd rs1 z false e hd h1 hz = back_plain o rd rs1 z e hd h1 hz
 
 pub decodes_back : (i : Instruction) → Formed i → decode_of (encoded i) ≡ Some i
 decodes_back (Lui rd imm) f = dec_lui (encoded (Lui rd imm)) rd imm (omega arith) (omega arith) (omega arith)
@@ -294,16 +205,7 @@ decodes_back (Store t rs1 rs2 z) f =
     let w = encoded (Store t rs1 rs2 z) in
     let h = has (low z 4096 / 32) rs2 rs1 (store_code t) (low z 32) 0x23 (omega arith) f.1 f.0 (store_small t) (omega arith) (omega arith) in
     dec_store t w rs1 rs2 z h.opcode (ap store_width_of h.funct3 ∙ store_back t) h.first h.second (back_i z (bits_s w) f.2 (h.s_bits ∙ halves (word_of z)))
-decodes_back (OpImm Add rd rs1 z) f = back_plain Add rd rs1 z refl f.0 f.1 f.2
-decodes_back (OpImm Sub rd rs1 z) f = absurd f.2
-decodes_back (OpImm Sll rd rs1 z) f = back_shift Sll rd rs1 z refl f.0 f.1 f.2
-decodes_back (OpImm Slt rd rs1 z) f = back_plain Slt rd rs1 z refl f.0 f.1 f.2
-decodes_back (OpImm Sltu rd rs1 z) f = back_plain Sltu rd rs1 z refl f.0 f.1 f.2
-decodes_back (OpImm Xor rd rs1 z) f = back_plain Xor rd rs1 z refl f.0 f.1 f.2
-decodes_back (OpImm Srl rd rs1 z) f = back_shift Srl rd rs1 z refl f.0 f.1 f.2
-decodes_back (OpImm Sra rd rs1 z) f = back_shift Sra rd rs1 z refl f.0 f.1 f.2
-decodes_back (OpImm Or rd rs1 z) f = back_plain Or rd rs1 z refl f.0 f.1 f.2
-decodes_back (OpImm And rd rs1 z) f = back_plain And rd rs1 z refl f.0 f.1 f.2
+decodes_back (OpImm o rd rs1 z) f = back_op_imm o rd rs1 z (shifts o) refl f.0 f.1 f.2
 decodes_back (Op o rd rs1 rs2) f =
     let h = has (operation_high o) rs2 rs1 (operation_code o) rd 0x33 (operation_small o).1 f.2 f.1 (operation_small o).0 f.0 (omega arith) in
     dec_op o (encoded (Op o rd rs1 rs2)) rd rs1 rs2 h.opcode (rw (h.funct7, h.funct3) (operation_back o)) h.dest h.first h.second
@@ -332,22 +234,16 @@ cases_mapped f Q R None q k = tt
 cases_mapped f Q R (Some t) q k = k t q
 
 condition_forth : (n : ℕ) → IfSome (condition_of n) (λ t. condition_code t ≡ n)
-condition_forth n = by_funct3_all (λ o. IfSome o (λ t. condition_code t ≡ n)) n _ _ _ _ _ _ _ _ sym sym (λ _. tt) (λ _. tt) sym sym sym sym tt
+condition_forth n = grind arith
 
 load_forth : (n : ℕ) → IfSome (load_width_of n) (λ t. load_code t ≡ n)
-load_forth n = by_funct3_all (λ o. IfSome o (λ t. load_code t ≡ n)) n _ _ _ _ _ _ _ _ sym sym sym (λ _. tt) sym sym (λ _. tt) (λ _. tt) tt
+load_forth n = grind arith
 
 store_forth : (n : ℕ) → IfSome (store_width_of n) (λ t. store_code t ≡ n)
-store_forth n = by_funct3_all (λ o. IfSome o (λ t. store_code t ≡ n)) n _ _ _ _ _ _ _ _ sym sym sym (λ _. tt) (λ _. tt) (λ _. tt) (λ _. tt) (λ _. tt) tt
+store_forth n = grind arith
 
 operation_forth : (m n : ℕ) → IfSome (operation_of m n) (λ o. (operation_high o ≡ m) × (operation_code o ≡ n))
-operation_forth m n =
-    let P : Option Operation → Type 0 = λ x. IfSome x (λ o. (operation_high o ≡ m) × (operation_code o ≡ n)) in
-    cond_both (eqb m 0) _ _ P
-    (λ q. let e = sym (eqb-true m 0 q) in by_funct3_all P n _ _ _ _ _ _ _ _ (λ r. (e, sym r)) (λ r. (e, sym r)) (λ r. (e, sym r)) (λ r. (e, sym r)) (λ r. (e, sym r)) (λ r. (e, sym r)) (λ r. (e, sym r)) (λ r. (e, sym r)) tt)
-    λ _. cond_both (eqb m 32) _ _ P
-    (λ q. let e = sym (eqb-true m 32 q) in by_funct3_all P n _ _ _ _ _ _ _ _ (λ r. (e, sym r)) (λ _. tt) (λ _. tt) (λ _. tt) (λ _. tt) (λ r. (e, sym r)) (λ _. tt) (λ _. tt) tt)
-    λ _. tt
+operation_forth m n = grind arith
 
 -- the bits of a signed number, and its range
 forth_i : (x : ℕ) → x < 4096 → (low (signed_of 2048 x) 4096 ≡ x) × (Within 2048 (signed_of 2048 x))
@@ -484,11 +380,5 @@ inverse i = (
 )
 
 -- what encode answers
-pub answer_some : (i : Instruction) (w : ℕ) → formed i ≡ true → w ≡ encoded i → Some w ≡ encode_of i
-answer_some i w h e = rw (h, e)
-
-pub answer_none : (i : Instruction) → formed i ≡ false → None ≡ encode_of i
-answer_none i h = rw h
-
 pub answer_inverse : (i : Instruction) (r : Option ℕ) → r ≡ encode_of i → Inverse r i
 answer_inverse i r e = subst (λ (o : Option ℕ). Inverse o i) (sym e) (inverse i)

@@ -1,3 +1,4 @@
 pub mod Masks
+pub mod Signs
 mod Formed
 pub mod Inverse

@@ -1,5 +1,5 @@
 -- The word of an instruction, and which instructions have one. Assumes nothing: these are definitions.
-use Rattle.std.specs.Prelude.{◌≡◌, ℕ, ◌+◌, ◌*◌, ◌/◌, ◌%◌, ◌^◌, ◌<◌, Bool, true, false, cond, ◌&&◌, ℤ, pos, neg_ℤ, Some, None, Option, ◌==◌, int_le, int_lt, nat_lt}
+use Rattle.std.specs.Prelude.{◌≡◌, ℕ, ◌+◌, ◌*◌, ◌/◌, ◌%◌, ◌^◌, ◌<◌, Bool, true, false, if◌then◌else◌, ◌&&◌, ℤ, pos, neg_ℤ, Some, None, Option, ◌==◌, int_le, int_lt, nat_lt}
 use Rattle.instructions.specs.declared.instruction.Operation.{Operation}
 use Rattle.instructions.specs.declared.instruction.Operation.TheVariants.{Add, Sub, Sll, Slt, Sltu, Xor, Srl, Sra, Or, And}
 use Rattle.instructions.specs.declared.instruction.Condition.{Condition}
@@ -141,14 +141,14 @@ encoded (Jalr rd rs1 z) = packed_i z rs1 0 rd 0x67
 encoded (Branch t rs1 rs2 z) = packed_b z rs2 rs1 (condition_code t) 0x63
 encoded (Load width rd rs1 z) = packed_i z rs1 (load_code width) rd 0x03
 encoded (Store width rs1 rs2 z) = packed_s z rs2 rs1 (store_code width) 0x23
-encoded (OpImm o rd rs1 z) = cond (shifts o) (packed (operation_high o) (low z 32) rs1 (operation_code o) rd 0x13) (packed_i z rs1 (operation_code o) rd 0x13)
+encoded (OpImm o rd rs1 z) = if shifts o then packed (operation_high o) (low z 32) rs1 (operation_code o) rd 0x13 else packed_i z rs1 (operation_code o) rd 0x13
 encoded (Op o rd rs1 rs2) = packed (operation_high o) rs2 rs1 (operation_code o) rd 0x33
 encoded (Fence fm pred succ rd rs1) = packed_i (pos (fm * 256 + pred * 16 + succ)) rs1 0 rd 0x0f
 encoded Ecall = 0x73
 
 -- the word of an instruction; none if it is not well-formed
 abbrev pub encode_of : Instruction → Option ℕ
-encode_of i = cond (formed i) (Some (encoded i)) None
+encode_of i = if formed i then Some (encoded i) else None
 
 -- Decoding and encoding are inverse to one another: an instruction has the word w if and only if w decodes to it
 abbrev pub Inverse : Option ℕ → Instruction → Type 0

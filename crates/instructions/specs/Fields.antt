@@ -1,6 +1,6 @@
 -- The fields of an instruction word, as the instruction formats of the specification have them: bits a to b of w are w / 2 ^ a % 2 ^ (b - a + 1). Assumes
 -- nothing: these are definitions.
-use Rattle.std.specs.Prelude.{ℕ, ◌+◌, ◌*◌, ◌/◌, ◌%◌, cond, ℤ, pos, ◌-ℤ◌, nat_lt}
+use Rattle.std.specs.Prelude.{ℕ, ◌+◌, ◌*◌, ◌/◌, ◌%◌, if◌then◌else◌, ℤ, pos, ◌-ℤ◌, nat_lt}
 use Rattle.std.proofs.Common.{of_z}
 use Rattle.std.specs.Int.{w32}
 
@@ -40,7 +40,7 @@ succ_of w = w / 1048576 % 16
 
 -- the number that bits below 2 * h stand for in two's complement
 abbrev pub signed_of : ℕ → ℕ → ℤ
-signed_of h x = cond (nat_lt x h) (pos x) (pos x -ℤ pos (2 * h))
+signed_of h x = if nat_lt x h then pos x else pos x -ℤ pos (2 * h)
 
 -- the word that stands for a number in two's complement: the number modulo 2 ^ 32
 abbrev pub word_of : ℤ → ℕ

@@ -1,7 +1,7 @@
 // The fields of an instruction word, by shifts and masks.
-ghost use Rattle.std.specs.Prelude.{◌≡◌, ◌+◌, ◌*◌, ◌/◌, ◌%◌, ◌^◌, ◌<◌};
+ghost use Rattle.std.specs.Prelude.{◌≡◌, ◌+◌, ◌-◌, ◌*◌, ◌/◌, ◌%◌, ◌^◌, ◌<◌, ◌≤◌};
 ghost use Rattle.instructions.specs.Fields.{opcode_of, rd_of, funct3_of, rs1_of, rs2_of, funct7_of, fm_of, pred_of, succ_of};
-ghost use Rattle.instructions.specs.Fields.{upper_of, bits_s, bits_b, bits_j, imm_i, imm_s, imm_b, imm_j};
+ghost use Rattle.instructions.specs.Fields.{upper_of, signed_of, bits_s, bits_b, bits_j, imm_i, imm_s, imm_b, imm_j};
 
 // The `count` bits of the word from bit `from` on.
 pub(crate) fn bits(word: u32, from: u32, count: u32) -> u32
@@ -72,10 +72,19 @@ pub(crate) fn immediate_u(word: u32) -> u32
     word & 0xffff_f000
 }
 
+// The number that the low `count` bits stand for in two's complement, where all others are 0.
+fn sign_extend(bits: u32, count: u32) -> i32
+    requires { (0 < count) × ((count ≤ 32) × (bits < 2 ^ count)) }
+    ensures { result ≡ signed_of (2 ^ (count - 1)) bits }
+{
+    let unused = 32 - count;
+    (bits << unused).cast_signed() >> unused
+}
+
 pub(crate) fn immediate_i(word: u32) -> i32
     ensures { result ≡ imm_i word }
 {
-    word.cast_signed() >> 20
+    sign_extend(word >> 20, 12)
 }
 
 fn bits_s(word: u32) -> u32
@@ -87,7 +96,7 @@ fn bits_s(word: u32) -> u32
 pub(crate) fn immediate_s(word: u32) -> i32
     ensures { result ≡ imm_s word }
 {
-    (bits_s(word) << 20).cast_signed() >> 20
+    sign_extend(bits_s(word), 12)
 }
 
 fn bits_b(word: u32) -> u32
@@ -101,7 +110,7 @@ fn bits_b(word: u32) -> u32
 pub(crate) fn immediate_b(word: u32) -> i32
     ensures { result ≡ imm_b word }
 {
-    (bits_b(word) << 19).cast_signed() >> 19
+    sign_extend(bits_b(word), 13)
 }
 
 fn bits_j(word: u32) -> u32
@@ -115,5 +124,5 @@ fn bits_j(word: u32) -> u32
 pub(crate) fn immediate_j(word: u32) -> i32
     ensures { result ≡ imm_j word }
 {
-    (bits_j(word) << 11).cast_signed() >> 11
+    sign_extend(bits_j(word), 21)
 }

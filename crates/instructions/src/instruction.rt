@@ -2,7 +2,7 @@
 // below 32. An immediate is the number that it stands for: signed, and an offset counts bytes.
 
 // What is done to two words; SLT and SLTU answer 1 or 0.
-#[derive(Clone, Copy)]
+#[derive(Clone, Copy, Debug, PartialEq, Eq)]
 pub enum Operation {
     Add,
     Sub,
@@ -17,7 +17,7 @@ pub enum Operation {
 }
 
 // When a branch is taken; the last two compare unsigned.
-#[derive(Clone, Copy)]
+#[derive(Clone, Copy, Debug, PartialEq, Eq)]
 pub enum Condition {
     Eq,
     Ne,
@@ -28,7 +28,7 @@ pub enum Condition {
 }
 
 // What is loaded; a byte and a half are extended to a word by their sign, the unsigned ones by zeros.
-#[derive(Clone, Copy)]
+#[derive(Clone, Copy, Debug, PartialEq, Eq)]
 pub enum LoadWidth {
     Byte,
     Half,
@@ -38,15 +38,16 @@ pub enum LoadWidth {
 }
 
 // What is stored: the low 8, 16 or all 32 bits.
-#[derive(Clone, Copy)]
+#[derive(Clone, Copy, Debug, PartialEq, Eq)]
 pub enum StoreWidth {
     Byte,
     Half,
     Word,
 }
 
-// The parts of an instruction stand in this order: what it does, rd, rs1, rs2, the immediate.
-#[derive(Clone, Copy)]
+// The parts of an instruction stand in this order: what it does, rd, rs1, rs2, the immediate. A register is a `u8`, and not a type of the 32, since `encode`
+// takes any number and answers None for one that is no register.
+#[derive(Clone, Copy, Debug, PartialEq, Eq)]
 pub enum Instruction {
     // rd, and the word whose upper 20 bits the instruction holds; its 12 low bits are 0
     Lui(u8, u32),
@@ -69,3 +70,7 @@ pub enum Instruction {
     Fence(u8, u8, u8, u8, u8),
     Ecall,
 }
+
+// A word, or a code in it, that stands for nothing here.
+#[derive(Clone, Copy, Debug, PartialEq, Eq)]
+pub struct Illegal;

@@ -1,5 +1,6 @@
 pub mod Tests
 pub mod Over
 pub mod Lowest
+pub mod Chains
 pub mod Numbers
 pub mod Parts

@@ -1,5 +1,5 @@
 -- Numbers put into bytes are read back from them. Assumes nothing.
-use Rattle.std.proofs.Common.{◌≡◌, ℕ, ◌+◌, ◌*◌, ◌/◌, ◌%◌, ◌^◌, ◌<◌, ◌≤◌, ◌⊎◌, List, [], ◌∷◌, length, get_or, set, sym, refl, ap, ◌∙◌, inl, inr, div-add-mod', arith, shr-shr}
+use Rattle.std.proofs.Common.{◌≡◌, ℕ, zero, suc, ◌+◌, ◌*◌, ◌/◌, ◌%◌, ◌^◌, ◌<◌, ◌≤◌, ◌⊎◌, List, [], ◌∷◌, length, get_or, set, sym, refl, ap, ◌∙◌, inl, inr, div-add-mod', arith, shr-shr}
 use Rattle.octets.specs.Rows.{over}
 use Rattle.octets.specs.Words.{half_at, word_at, half_bytes, word_bytes}
 use Rattle.octets.proofs.Over.{get_or_over_in, get_or_over_out, over_more, over_none}
@@ -68,3 +68,12 @@ word_back a b c d ha hb hc hd =
     let g : (c + d * 256) % 256 ≡ c = low_digit c d hc in
     let h : d % 256 ≡ d = omega arith in
     rw x (rw (e, u, v, w, f, g, h) refl)
+
+-- a number that stands at a multiple of its size lies in one page
+pub aligned_in_page : (size a k : ℕ) → size ≤ 4 → 4096 % size ≡ 0 → a % size ≡ 0 → k < size → a % 4096 + k < 4096
+aligned_in_page zero a k few pages aligned h = absurd (omega arith)
+aligned_in_page (suc zero) a k few pages aligned h = omega arith
+aligned_in_page (suc (suc zero)) a k few pages aligned h = omega arith
+aligned_in_page (suc (suc (suc zero))) a k few pages aligned h = absurd (omega arith)
+aligned_in_page (suc (suc (suc (suc zero)))) a k few pages aligned h = omega arith
+aligned_in_page (suc (suc (suc (suc (suc n))))) a k few pages aligned h = absurd (omega arith)

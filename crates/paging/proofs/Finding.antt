@@ -54,5 +54,5 @@ found_none g p a v e = go (has g p a) refl e
     go false t h = t
 
 -- a value at the place that find answers is the value at the address
-pub loaded_some : (g : Paging) (p a v w : ℕ) → a / 4096 < held g p → v ≡ w → Some v ≡ if_has g p a w
+pub loaded_some : {X : Type 0} (g : Paging) (p a : ℕ) (v w : X) → a / 4096 < held g p → v ≡ w → Some v ≡ if_has g p a w
 loaded_some g p a v w h e = rw (lt-ltb (a / 4096) (held g p) h, e)

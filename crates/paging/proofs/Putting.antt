@@ -3,14 +3,15 @@ use Rattle.std.proofs.Common.{◌≡◌, ℕ, ◌+◌, ◌-◌, ◌*◌, ◌/◌
 use Rattle.std.proofs.lemmas.List.{length-take-le, length-drop, get_or-take, get_or-drop}
 use Rattle.std.proofs.lemmas.Bool.{cases_lt}
 use Rattle.octets.specs.Rows.{over}
-use Rattle.octets.specs.Words.{half_at, word_at}
+use Rattle.octets.specs.Words.{NumberLaws}
+use Rattle.std.specs.Prelude.{slice_index}
 use Rattle.octets.proofs.Over.{length_over, get_or_over_in, get_or_over_out}
 use Rattle.paging.specs.declared.Paging.{Paging}
 use Rattle.paging.specs.Tables.{place, byte_of}
 use Rattle.paging.specs.Pages.{held, Byte, Sound}
 use Rattle.paging.specs.Changes.{Only, Put, Stored}
 use Rattle.paging.specs.Frames.{ElseKept}
-use Rattle.paging.specs.Accesses.{half_of, word_of}
+use Rattle.octets.proofs.Numbers.{aligned_in_page}
 use Rattle.paging.proofs.Filling.{TablesKept, place_kept, caches_kept, sound_kept, place_above, place_within, place_apart}
 
 -- bytes of one page lie side by side
@@ -29,11 +30,10 @@ pub byte_here : (f : List ℕ) (p a : ℕ) → get_or f (place f p a) 0 ≡ byte
 unfolding byte_of
 byte_here f p a = refl
 
-pub half_here : (f : List ℕ) (p a : ℕ) → a % 4096 + 1 < 4096 → half_at f (place f p a) ≡ half_of f p a
-half_here f p a h = rw (byte_here f p a, byte_next f p a 1 h)
-
-pub word_here : (f : List ℕ) (p a : ℕ) → a % 4096 + 3 < 4096 → word_at f (place f p a) ≡ word_of f p a
-word_here f p a h = rw (byte_here f p a, byte_next f p a 1 (omega arith), byte_next f p a 2 (omega arith), byte_next f p a 3 h)
+-- so a number that stands at a multiple of its size is the one that the process's bytes are
+pub number_here : {N : Type 0} {size : ℕ} {from : (ℕ → ℕ) → ℕ → N} {bytes : N → List ℕ} → NumberLaws size from bytes → (f : List ℕ) (p a : ℕ) → a % size ≡ 0 → from (slice_index f) (place f p a) ≡ from (byte_of f p) a
+number_here {size = size} laws f p a aligned =
+    laws.same (slice_index f) (byte_of f p) (place f p a) a (λ k h. byte_next f p a k (aligned_in_page size a k laws.few laws.pages aligned h))
 
 -- a part of a page, m bytes from place x on, is the bytes from address a on
 module _ (f : List ℕ) (p a x m : ℕ) (is : x ≡ place f p a) (page : a % 4096 + m ≤ 4096) (within : x + 4096 ≤ length f + a % 4096) where
@@ -83,6 +83,12 @@ stored_over g f s p a ys u page =
     let w = place_within g f s p a u in
     put_page g f _ s p a (length ys) _ u page (length_over f (place f p a) ys (omega arith)) (λ k l. get_or_over_in f (place f p a) ys k 0 l)
     (record { low = λ k l. get_or_over_out f (place f p a) ys k 0 (omega arith) (inl l); high = λ k l. get_or_over_out f (place f p a) ys k 0 (omega arith) (inr l) })
+
+-- a number is put at a multiple of its size
+pub number_stored : {N : Type 0} {size : ℕ} {from : (ℕ → ℕ) → ℕ → N} {bytes : N → List ℕ} → NumberLaws size from bytes → (g : Paging) (f e : List ℕ) (s : Sound g f) (p a x : ℕ) (v : N) → Byte g p a → a % size ≡ 0
+    → x ≡ place f p a → e ≡ over f x (bytes v) → Stored g f e p a (bytes v)
+number_stored {size = size} {bytes = bytes} laws g f e s p a x v u aligned is row =
+    rw (row, is) (stored_over g f s p a (bytes v) u (omega (arith, laws.some, laws.long v, aligned_in_page size a (size - 1) laws.few laws.pages aligned (omega (arith, laws.some)))))
 
 -- nothing changed, or one change and then another
 pub only_none : (p : ℕ) (g : Paging) (f : List ℕ) → Sound g f → Only p g f f

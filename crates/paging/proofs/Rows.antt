@@ -3,14 +3,14 @@ use Rattle.std.proofs.Common.{◌≡◌, ℕ, ◌+◌, ◌-◌, ◌*◌, ◌<◌
 use Rattle.std.proofs.lemmas.List.{ext_get_or, length-replicate, length-drop, length-take-le, get_or-take, get_or-drop}
 use Rattle.std.proofs.lemmas.Bool.{cases_lt}
 use Rattle.octets.specs.Rows.{over}
-use Rattle.octets.specs.Words.{half_at, word_at}
+use Rattle.octets.specs.Words.{NumberLaws}
+use Rattle.std.specs.Prelude.{slice_index}
 use Rattle.octets.proofs.Over.{length_over, get_or_over_in, get_or_over_out}
 use Rattle.octets.proofs.Tests.{get_or_all}
 use Rattle.paging.specs.declared.Paging.{Paging}
 use Rattle.paging.specs.Tables.{byte_of}
 use Rattle.paging.specs.Pages.{held, Byte, Sound}
 use Rattle.paging.specs.Changes.{Others, Begun, Ended, Stored}
-use Rattle.paging.specs.Accesses.{half_of, word_of}
 use Rattle.paging.specs.Rows.{Shows}
 use Rattle.paging.proofs.Moving.{held_same, held_other}
 
@@ -33,11 +33,8 @@ module _ (g : Paging) (f : List ℕ) (p : ℕ) (m : List ℕ) (see : Shows g f p
   shows_byte a l = (see.process, omega (arith, see.long))
 
   -- numbers are read as in the row
-  pub shows_half : (a : ℕ) → a + 2 ≤ length m → half_of f p a ≡ half_at m a
-  shows_half a l = rw (see.each a (omega arith), see.each (a + 1) (omega arith))
-
-  pub shows_word : (a : ℕ) → a + 4 ≤ length m → word_of f p a ≡ word_at m a
-  shows_word a l = rw (see.each a (omega arith), see.each (a + 1) (omega arith), see.each (a + 2) (omega arith), see.each (a + 3) (omega arith))
+  pub shows_number : {N : Type 0} {size : ℕ} {from : (ℕ → ℕ) → ℕ → N} {bytes : N → List ℕ} → NumberLaws size from bytes → (a : ℕ) → a + size ≤ length m → from (byte_of f p) a ≡ from (slice_index m) a
+  shows_number laws a l = laws.same (byte_of f p) (slice_index m) a a (λ k h. see.each (a + k) (omega arith))
 
   -- bytes that are lent or copied out are a part of the row
   pub shows_part : (a : ℕ) (bs : List ℕ) → a + length bs ≤ length m → ((k : ℕ) → k < length bs → get_or bs k 0 ≡ byte_of f p (a + k)) → bs ≡ take (length bs) (drop a m)

@@ -1,5 +1,5 @@
 -- Laws of the tables, in their own words. Assumes nothing: these are definitions and statements; src/laws.rt has the functions whose contracts they are.
-use Rattle.std.specs.Prelude.{◌≡◌, ℕ, zero, suc, ◌+◌, ◌-◌, ◌*◌, ◌/◌, ◌<◌, ◌≤◌, cond, ◌⊎◌, List, ◌==◌, ◌≢◌, slice_index}
+use Rattle.std.specs.Prelude.{◌≡◌, ℕ, zero, suc, ◌+◌, ◌-◌, ◌*◌, ◌/◌, ◌<◌, ◌≤◌, if◌then◌else◌, ◌⊎◌, List, ◌==◌, ◌≢◌, slice_index}
 use Rattle.turns.specs.declared.vocabulary.Sizes.{Sizes}
 use Rattle.paging.specs.declared.Paging.{Paging}
 use Rattle.paging.specs.Tables.{frame_of, free_at, place}
@@ -18,7 +18,7 @@ BytesApart = (g : Paging) (f : List ℕ) → Sound g f → (p q a b : ℕ) → B
 -- how many of the first n processes have pages
 unfoldable pub live : ℕ → List ℕ → ℕ
 live zero hs = 0
-live (suc n) hs = cond (slice_index hs n == 0) 0 1 + live n hs
+live (suc n) hs = (if slice_index hs n == 0 then 0 else 1) + live n hs
 
 -- each process has all its pages, or none
 abbrev pub AllOrNone : Sizes → Paging → Type 0

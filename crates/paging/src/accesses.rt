@@ -1,14 +1,13 @@
 // Loads and stores of a running process, through the page that was used last.
-ghost use Rattle.std.specs.Prelude.{◌≡◌, ◌%◌, ◌<◌, ◌≤◌, true, false, [], ◌∷◌};
-ghost use Rattle.octets.specs.Words.{half_bytes, word_bytes};
+ghost use Rattle.std.specs.Prelude.{◌≡◌, ◌%◌, ◌<◌, ◌≤◌, is_some, OnSome, IfNone};
 ghost use Rattle.paging.specs.Tables.{place, byte_of};
 ghost use Rattle.paging.specs.Pages.{Sound, Remembers, Forgotten};
 ghost use Rattle.paging.specs.Changes.{Stored, Only};
-ghost use Rattle.paging.specs.Accesses.{has, if_has, half_of, word_of, Within};
+ghost use Rattle.paging.specs.Accesses.{has, if_has, Within};
 
 use crate::tables::frame;
 use crate::{Cache, Paging};
-use octets::{half, put_half, put_word, word};
+use octets::Number;
 
 impl Cache {
     // Nothing is remembered: this holds of every process, also of one whose tables were written.
@@ -42,118 +41,40 @@ impl Cache {
         Some(self.base + (a % 4096) as usize)
     }
 
-    // The byte at address `a` of process `p`, if it has one.
-    pub fn load_byte(&mut self, paging: &Paging, frames: &[u8], p: usize, a: u32) -> Option<u8>
+    // The number in the bytes from address `a` on, if process `p` has them.
+    pub fn load<N: Number>(&mut self, paging: &Paging, frames: &[u8], p: usize, a: u32) -> Option<N>
         requires sound { Sound paging.now frames.now }
         requires process { p < 64 }
+        requires aligned { a % N.size ≡ 0 }
         requires holds { Remembers paging.now frames.now p self.old }
-        ensures value { result ≡ if_has paging.now p a (byte_of frames.now p a) }
+        ensures value { result ≡ if_has paging.now p a (N.from (byte_of frames.now p) a) }
         ensures holds { Remembers paging.now frames.now p self.new }
     {
         let at = self.find(paging, frames, p, a)?;
-        Some(frames[at])
+        Some(N::read(frames, at))
     }
 
-    // The number in the two bytes from address `a` on, if process `p` has them.
-    pub fn load_half(&mut self, paging: &Paging, frames: &[u8], p: usize, a: u32) -> Option<u16>
-        requires sound { Sound paging.now frames.now }
-        requires process { p < 64 }
-        requires aligned { a % 2 ≡ 0 }
-        requires holds { Remembers paging.now frames.now p self.old }
-        ensures value { result ≡ if_has paging.now p a (half_of frames.now p a) }
-        ensures holds { Remembers paging.now frames.now p self.new }
-    {
-        let at = self.find(paging, frames, p, a)?;
-        Some(half(frames, at))
-    }
-
-    // The number in the four bytes from address `a` on, if process `p` has them.
-    pub fn load_word(&mut self, paging: &Paging, frames: &[u8], p: usize, a: u32) -> Option<u32>
-        requires sound { Sound paging.now frames.now }
-        requires process { p < 64 }
-        requires aligned { a % 4 ≡ 0 }
-        requires holds { Remembers paging.now frames.now p self.old }
-        ensures value { result ≡ if_has paging.now p a (word_of frames.now p a) }
-        ensures holds { Remembers paging.now frames.now p self.new }
-    {
-        let at = self.find(paging, frames, p, a)?;
-        Some(word(frames, at))
-    }
-
-    // A byte is put at address `a` of process `p`; false, and nothing is written, if it has no such address.
-    pub fn store_byte(
+    // A number is put into the bytes from address `a` on; none, and nothing is written, if process `p` has them not.
+    pub fn store<N: Number>(
         &mut self,
         paging: &Paging,
         frames: &mut [u8],
         p: usize,
         a: u32,
-        value: u8,
-    ) -> bool
+        value: N,
+    ) -> Option<()>
         requires sound { Sound paging.now frames.old }
         requires process { p < 64 }
+        requires aligned { a % N.size ≡ 0 }
         requires holds { Remembers paging.now frames.old p self.old }
-        ensures done { result ≡ has paging.now p a }
-        ensures stored { result ≡ true → Stored paging.now frames.old frames.new p a (value ∷ []) }
-        ensures nothing { result ≡ false → frames.new ≡ frames.old }
+        ensures done { is_some result ≡ has paging.now p a }
+        ensures stored { OnSome result (Stored paging.now frames.old frames.new p a (N.bytes value)) }
+        ensures nothing { IfNone result (frames.new ≡ frames.old) }
         ensures only { Only p paging.now frames.old frames.new }
         ensures holds { Remembers paging.now frames.new p self.new }
     {
-        let Some(at) = self.find(paging, frames, p, a) else {
-            return false;
-        };
-        frames[at] = value;
-        true
-    }
-
-    // A number is put into the two bytes from address `a` on; false, and nothing is written, if process `p` has them not.
-    pub fn store_half(
-        &mut self,
-        paging: &Paging,
-        frames: &mut [u8],
-        p: usize,
-        a: u32,
-        value: u16,
-    ) -> bool
-        requires sound { Sound paging.now frames.old }
-        requires process { p < 64 }
-        requires aligned { a % 2 ≡ 0 }
-        requires holds { Remembers paging.now frames.old p self.old }
-        ensures done { result ≡ has paging.now p a }
-        ensures stored { result ≡ true → Stored paging.now frames.old frames.new p a (half_bytes value) }
-        ensures nothing { result ≡ false → frames.new ≡ frames.old }
-        ensures only { Only p paging.now frames.old frames.new }
-        ensures holds { Remembers paging.now frames.new p self.new }
-    {
-        let Some(at) = self.find(paging, frames, p, a) else {
-            return false;
-        };
-        put_half(frames, at, value);
-        true
-    }
-
-    // A number is put into the four bytes from address `a` on; false, and nothing is written, if process `p` has them not.
-    pub fn store_word(
-        &mut self,
-        paging: &Paging,
-        frames: &mut [u8],
-        p: usize,
-        a: u32,
-        value: u32,
-    ) -> bool
-        requires sound { Sound paging.now frames.old }
-        requires process { p < 64 }
-        requires aligned { a % 4 ≡ 0 }
-        requires holds { Remembers paging.now frames.old p self.old }
-        ensures done { result ≡ has paging.now p a }
-        ensures stored { result ≡ true → Stored paging.now frames.old frames.new p a (word_bytes value) }
-        ensures nothing { result ≡ false → frames.new ≡ frames.old }
-        ensures only { Only p paging.now frames.old frames.new }
-        ensures holds { Remembers paging.now frames.new p self.new }
-    {
-        let Some(at) = self.find(paging, frames, p, a) else {
-            return false;
-        };
-        put_word(frames, at, value);
-        true
+        let at = self.find(paging, frames, p, a)?;
+        value.write(frames, at);
+        Some(())
     }
 }

@@ -2,29 +2,21 @@
 ghost use Rattle.paging.specs.Laws.{FramesApart, BytesApart, FreeFrames, FindsPages};
 
 // No two pages have the same frame, and none has a free one.
-pub fn frames_apart_stands() -> u8
+pub fn frames_apart_stands()
     ensures { FramesApart }
-{
-    0
-}
+{}
 
 // No two bytes of processes lie in the same place.
-pub fn bytes_apart_stands() -> u8
+pub fn bytes_apart_stands()
     ensures { BytesApart }
-{
-    0
-}
+{}
 
 // If each process has all its pages or none, the free frames are as many as all processes that have none need.
-pub fn free_frames_stands() -> u8
+pub fn free_frames_stands()
     ensures { FreeFrames }
-{
-    0
-}
+{}
 
 // A process that has no page finds all its pages.
-pub fn finds_pages_stands() -> u8
+pub fn finds_pages_stands()
     ensures { FindsPages }
-{
-    0
-}
+{}

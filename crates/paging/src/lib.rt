@@ -1,5 +1,8 @@
 // The memory of processes, in frames of 4,096 bytes of lent memory. The first 80 frames hold the page tables and a stack of free frames; the others hold pages.
 // What a process sees is one row of bytes, `byte_of` process and address (specs/Tables); no caller speaks of tables.
+//
+// The lent frames, and a process's number, stand beside `Paging` in every method, and not in a struct with it: the board's state goes by value, which a value with
+// lent memory in it may not.
 #![tactic(auto)]
 
 mod accesses;
@@ -13,7 +16,7 @@ mod stack;
 mod tables;
 
 // Which processes have pages. A process has all its pages while it runs, and none else; in between, as it begins or ends, it has the first few.
-#[derive(Clone, Copy)]
+#[derive(Clone, Copy, Debug, PartialEq, Eq)]
 pub struct Paging {
     // how many frames are free: the height of the stack that holds their numbers
     pub(crate) free: u32,
@@ -22,7 +25,7 @@ pub struct Paging {
 }
 
 // The page of a process that was used last, and where its frame begins, so that most accesses walk no table.
-#[derive(Clone, Copy)]
+#[derive(Clone, Copy, Debug, PartialEq, Eq)]
 pub struct Cache {
     pub(crate) page: u32,
     pub(crate) base: usize,

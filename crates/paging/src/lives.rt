@@ -54,7 +54,8 @@ impl Paging {
         }
     }
 
-    // Process `to` begins with the bytes that process `from` has.
+    // Process `to` begins with the bytes that process `from` has. (`begin` and it share two lines; what a page is filled with, as a closure, would need a longer
+    // contract than the loop that it saves.)
     pub fn begin_copy(&mut self, sizes: Sizes, frames: &mut [u8], from: usize, to: usize)
         requires sound { Sound self.old frames.old }
         requires enough { Enough sizes self.old }

@@ -45,6 +45,7 @@ impl Paging {
         ensures bytes { (k : ℕ) → k < n → slice_index out.new k ≡ byte_of frames.now p (a + k) }
         ensures rest { (k : ℕ) → n ≤ k → slice_index out.new k ≡ slice_index out.old k }
     {
+        // A step is a run, as long as a page allows: no range and no chunks of std go so.
         let mut done = 0;
         while done < n {
             let run = self.run(frames, p, a + done, n - done);
@@ -76,6 +77,7 @@ impl Paging {
         requires within { a + length bytes.now ≤ held self.now p * 4096 }
         ensures { Stored self.now frames.old frames.new p a bytes.now }
     {
+        // Run by run, as above.
         let mut done = 0;
         while done < bytes.len() {
             done += self.store_run(frames, p, a + done, &bytes[done..]);

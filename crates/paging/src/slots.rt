@@ -4,7 +4,7 @@ ghost use Rattle.paging.specs.Tables.{free_at, Tops, Slotted};
 ghost use Rattle.paging.specs.Tables.Slot.{page, free};
 
 use crate::tables::leaf;
-use octets::{put_word, word};
+use octets::Number;
 
 // The stack of free frames lies behind the tables.
 pub(crate) const STACK: usize = 69_632;
@@ -15,7 +15,7 @@ pub(crate) fn make_tops(frames: &mut [u8])
     ensures { Tops frames.new }
 {
     for n in 0..1024 {
-        put_word(frames, n * 4, 64 + n as u32);
+        (64 + n as u32).write(frames, n * 4);
     }
 }
 
@@ -25,7 +25,7 @@ pub(crate) fn free_frame(frames: &[u8], k: usize) -> u32
     requires long { 327680 ≤ length frames.now }
     ensures { result ≡ free_at frames.now k }
 {
-    word(frames, STACK + k * 4)
+    u32::read(frames, STACK + k * 4)
 }
 
 // Frame `n` is put on the stack at height `k`.
@@ -35,7 +35,7 @@ pub(crate) fn put_free(frames: &mut [u8], k: usize, n: u32)
     requires tops { Tops frames.old }
     ensures { Slotted frames.old frames.new (free k) n }
 {
-    put_word(frames, STACK + k * 4, n);
+    n.write(frames, STACK + k * 4);
 }
 
 // Page `i` of process `p` gets frame `n`.
@@ -47,5 +47,5 @@ pub(crate) fn put_page(frames: &mut [u8], p: usize, i: usize, n: u32)
     ensures { Slotted frames.old frames.new (page p i) n }
 {
     let table = leaf(frames, p, i);
-    put_word(frames, table * 64 + i % 16 * 4, n);
+    n.write(frames, table * 64 + i % 16 * 4);
 }

@@ -1,8 +1,9 @@
-// Walking the page tables: from a process and a page to its frame.
+// Walking the page tables: from a process and a page to its frame. The frames are lent at each call, so each function asks that they are long enough for the
+// tables, and that the top tables stand.
 ghost use Rattle.std.specs.Prelude.{◌≡◌, ◌+◌, ◌*◌, ◌/◌, ◌^◌, ◌<◌, ◌≤◌, length};
 ghost use Rattle.paging.specs.Tables.{entry_of, frame_of, Tops};
 
-use octets::word;
+use octets::Number;
 
 // Entry `k` of table `t`.
 pub(crate) fn entry(frames: &[u8], t: usize, k: usize) -> usize
@@ -12,7 +13,7 @@ pub(crate) fn entry(frames: &[u8], t: usize, k: usize) -> usize
     ensures value { result ≡ entry_of frames.now t k }
     ensures fits { result < 2 ^ 32 }
 {
-    word(frames, t * 64 + k * 4) as usize
+    u32::read(frames, t * 64 + k * 4) as usize
 }
 
 // The leaf table that holds the entry of page `i` of process `p`.

@@ -1,8 +1,8 @@
 -- The tables at the start. Assumes nothing.
-use Rattle.std.proofs.Common.{◌≡◌, ℕ, zero, suc, ◌-◌, ◌<◌, List, ◌∷◌, length, get_or, set, replicate, Some, None, Option, sym, refl, ap, ◌∙◌, arith}
-use Rattle.std.proofs.lemmas.List.{length-replicate, get_or-set_same, get_or-set_other, length-set}
+use Rattle.std.proofs.Common.{◌≡◌, ℕ, zero, suc, ◌-◌, ◌<◌, List, ◌∷◌, get_or, set, replicate, Some, None, Option, sym, refl, ap, ◌∙◌, arith}
+use Rattle.std.proofs.lemmas.List.{length-replicate, get_or-set_same, get_or-set_other}
 use Rattle.std.proofs.lemmas.Bool.{both_ways}
-use Rattle.octets.proofs.Tests.{get_or_all, get_or_set_by}
+use Rattle.octets.proofs.Tests.{get_or_all}
 use Rattle.turns.specs.Ranges.{InRange}
 use Rattle.turns.specs.World.{process, nobody, opened, closed, is_running, begin, loaded}
 use Rattle.turns.specs.World as W
@@ -14,7 +14,7 @@ use Rattle.rv32.specs.declared.cpu.Cpu.{Cpu}
 use Rattle.rv32.specs.Act.{core}
 use Rattle.processes.specs.declared.Process.{Process}
 use Rattle.processes.specs.declared.Tables.{Tables}
-use Rattle.processes.specs.Tabled.{Sound, Tabled, Same, blank, shut}
+use Rattle.processes.specs.Tabled.{Tabled, Same, blank, shut}
 use Rattle.processes.specs.Changes.{empty, first}
 
 -- what holds of an element of a row of equals, and past it
@@ -50,30 +50,23 @@ handle_at n (suc zero) = refl
 handle_at n (suc (suc zero)) = refl
 handle_at n (suc (suc (suc k))) = get_or_all 13 k None ∙ sym (get_or_all n k None)
 
-abbrev pub started : Sizes → Process → Tables
-started z q = record { sizes = z; processes = set (replicate 64 empty) 0 q; opens = set (replicate 256 shut) 0 (record { end = Screen 0; at = 0 }); turn = 0; used = 0 }
-
-pub sound_started : (z : Sizes) → InRange z → Sound (started z (first z.memory))
-sound_started z r =
+-- the first process in place 0, and open thing 0 on screen 0
+abbrev started : (z : Sizes) → Process → InRange z → 0 < z.processes → 0 < z.turn → Tables
+started z q r a b =
     record {
-      sizes = r;
-      places = length-set (replicate 64 empty) 0 (first z.memory) ∙ length-replicate 64 empty;
-      handles = λ p l.
-          get_or_set_by (λ (x : Process). length x.handles ≡ 16) (replicate 64 empty) 0 p (first z.memory) blank (λ _. refl)
-          (ap (λ (x : Process). length x.handles) (within 64 p l));
-      opens = length-set (replicate 256 shut) 0 (record { end = Screen 0; at = 0 }) ∙ length-replicate 256 shut;
-      turn = omega (arith, r.processes.0);
-      used = omega (arith, r.turn.0);
+      sizes = z;
+      processes = set (replicate 64 empty) 0 q;
+      opens = set (replicate 256 shut) 0 (record { end = Screen 0; at = 0 });
+      turn = 0;
+      used = 0;
+      in_range = r;
+      turn_there = a;
+      used_within = b;
     }
-  where
-    within : (n k : ℕ) → k < n → get_or (replicate n empty) k blank ≡ empty
-    within zero k l = absurd (omega arith)
-    within (suc n) zero l = refl
-    within (suc n) (suc k) l = within n k (omega arith)
 
-pub tabled_started : (z : Sizes) (files : List (List ℕ)) → InRange z → Tabled (started z (first z.memory)) (begin core z files)
+pub tabled_started : (z : Sizes) (files : List (List ℕ)) (r : InRange z) {a : 0 < z.processes} {b : 0 < z.turn} → Tabled (started z (first z.memory) r a b) (begin core z files)
 unfolding begin process opened closed
-tabled_started z files r =
+tabled_started z files r {a} {b} =
     record {
       places = omega (arith, length-replicate (z.processes - 1) (nobody core), r.processes.0);
       each = λ p. place_at z (first z.memory) _ (z.processes - 1) p

@@ -1,11 +1,13 @@
 -- What the calls of the tables come to. Assumes nothing.
-use Rattle.std.proofs.Common.{◌≡◌, ℕ, suc, ◌+◌, ◌-◌, ◌*◌, ◌<◌, ◌≤◌, Bool, true, false, not, ◌||◌, eqb, Some, None, sym, refl, ap, ◌∙◌, subst, arith}
-use Rattle.std.proofs.lemmas.Bool.{both_ways, eqb-true, lt-ltb, le-ltb, lt-leb, le-leb}
-use Rattle.processes.proofs.Rows.{get_or_past}
-use Rattle.octets.specs.Rows.{pick, some, lowest, lowest_from}
-use Rattle.octets.proofs.Tests.{pick_true, pick_false, pick_both}
-use Rattle.turns.specs.World.{is_left, is_running, Done, process, nobody, with_process, waits, left_child, left_with, is_child, turned_down, answers, stays, no, is_none, handle_of, with_handle, closes, copies, opens, forks, free_process, named, is_nothing, free_open, free_handle, with_open}
+use Rattle.std.specs.Prelude.{is_none, if◌then◌else◌}
+use Rattle.std.proofs.Common.{◌≡◌, ℕ, suc, ◌+◌, ◌*◌, ◌<◌, ◌≤◌, Bool, true, false, not, ◌||◌, eqb, Some, None, sym, refl, ap, ◌∙◌, subst, ⊎_elim, arith}
+use Rattle.std.proofs.lemmas.Bool.{cases_Bool, both_ways, eqb-true, lt-ltb, le-ltb, lt-leb, le-leb}
+use Rattle.std.proofs.lemmas.List.{get_or_past}
+use Rattle.octets.specs.Rows.{some}
+use Rattle.octets.proofs.Tests.{pick_true, pick_false}
+use Rattle.turns.specs.World.{is_left, is_running, Done, process, nobody, with_process, waits, left_child, left_with, is_child, turned_down, answers, stays, no, handle_of, with_handle, closes, copies, opens, forks, free_process, named, is_nothing, free_open, free_handle, with_open}
 use Rattle.turns.specs.declared.vocabulary.End.{End}
+use Rattle.turns.specs.declared.vocabulary.End.TheVariants.{Nothing}
 use Rattle.turns.specs.declared.vocabulary.Outcome.TheVariants.{Answer, Stays}
 use Rattle.turns.specs.declared.vocabulary.State.{State}
 use Rattle.turns.specs.declared.vocabulary.State.TheVariants.{Free, Runs, Left}
@@ -14,15 +16,13 @@ use Rattle.rv32.specs.declared.cpu.Cpu.{Cpu}
 use Rattle.rv32.specs.Act.{core}
 use Rattle.processes.specs.Tabled.{Worlds, Tabled, Came, RunsAt, place}
 use Rattle.processes.specs.Changes.{child}
+use Rattle.processes.specs.Looking.{one_of}
+use Rattle.processes.proofs.Seeing.{none_of, some_of, open_first, handle_first, children_are, left_is}
 use Rattle.processes.specs.declared.Tables.{Tables}
 
 pub or_true : (b : Bool) → (b || true) ≡ true
 or_true true = refl
 or_true false = refl
-
-pub not_back : (a b : Bool) → a ≡ not b → b ≡ not a
-not_back a true e = ap not (sym e)
-not_back a false e = ap not (sym e)
 
 -- a call that is turned down, one that stays, and one that has an answer
 module _ (t : Tables) (d : Done Cpu) where
@@ -36,26 +36,26 @@ module _ (t : Tables) (d : Done Cpu) where
   answered v a b h q e = subst (Came t (Answer a)) e (record { outcome = ap Answer q; tabled = h })
 
 module _ (z : Sizes) (w : Worlds) (p : ℕ) where
-  pub forks_none : (q : ℕ) → q ≡ free_process core z w → z.processes ≤ q → turned_down w ≡ forks core z w p
+  pub forks_none : None ≡ one_of z.processes (free_process core z w) → turned_down w ≡ forks core z w p
   unfolding forks
-  forks_none q e l = sym (pick_true _ _ _ (le-leb _ _ (omega (arith, e))))
+  forks_none e = sym (pick_true _ _ _ (le-leb _ _ (none_of _ _ e)))
 
-  pub forks_one : (q : ℕ) → q ≡ free_process core z w → q < z.processes → answers (with_process w q (child w p)) (suc q) ≡ forks core z w p
+  pub forks_one : (q : ℕ) → Some q ≡ one_of z.processes (free_process core z w) → answers (with_process w q (child w p)) (suc q) ≡ forks core z w p
   unfolding forks
-  forks_one q e l = rw (← e) (sym (pick_false _ _ _ (lt-leb _ _ l)))
+  forks_one q e = let s = some_of _ _ _ e in rw (← s.0) (sym (pick_false _ _ _ (lt-leb _ _ s.1)))
 
   pub waits_alone : false ≡ some (is_child core w p) z.processes → turned_down w ≡ waits core z w p
   unfolding waits
   waits_alone e = sym (pick_true _ _ _ (ap not (sym e)))
 
-  pub waits_on : (i : ℕ) → true ≡ some (is_child core w p) z.processes → i ≡ left_child core z w p → z.processes ≤ i → stays w ≡ waits core z w p
+  pub waits_on : true ≡ some (is_child core w p) z.processes → None ≡ one_of z.processes (left_child core z w p) → stays w ≡ waits core z w p
   unfolding waits
-  waits_on i e f l = sym (pick_false _ _ _ (ap not (sym e)) ∙ pick_false _ _ _ (le-ltb _ _ (omega (arith, f))))
+  waits_on e f = sym (pick_false _ _ _ (ap not (sym e)) ∙ pick_false _ _ _ (le-ltb _ _ (none_of _ _ f)))
 
-  pub waits_over : (i : ℕ) → true ≡ some (is_child core w p) z.processes → i ≡ left_child core z w p → i < z.processes →
+  pub waits_over : (i : ℕ) → true ≡ some (is_child core w p) z.processes → Some i ≡ one_of z.processes (left_child core z w p) →
       answers (with_process w i (nobody core)) (left_with (process core w i).state * 256 + suc i) ≡ waits core z w p
   unfolding waits
-  waits_over i e f l = rw (← f) (sym (pick_false _ _ _ (ap not (sym e)) ∙ pick_true _ _ _ (lt-ltb _ _ l)))
+  waits_over i e f = let s = some_of _ _ _ f in rw (← s.0) (sym (pick_false _ _ _ (ap not (sym e)) ∙ pick_true _ _ _ (lt-ltb _ _ s.1)))
 
 left_rests : (s : State) → is_left s ≡ true → is_running s ≡ false
 unfolding is_left is_running
@@ -64,17 +64,19 @@ left_rests Runs e = absurd (both_ways false refl e)
 left_rests (Left n) e = refl
 
 -- a place that becomes free after a process has left it: nobody more and nobody less runs
-pub reaped_rests : (t : Tables) (i q : ℕ) → is_left (place t i).state ≡ true → is_running (pick (eqb q i) Free (place t q).state) ≡ is_running (place t q).state
+pub reaped_rests : (t : Tables) (i q : ℕ) → is_left (place t i).state ≡ true → is_running (if eqb q i then Free else (place t q).state) ≡ is_running (place t q).state
 unfolding is_running
 reaped_rests t i q l =
-    pick_both (λ x. is_running x ≡ is_running (place t q).state) (eqb q i) Free (place t q).state
-    (λ e. sym (ap (λ k. is_running (place t k).state) (eqb-true q i e) ∙ left_rests (place t i).state l)) (λ _. refl)
+    ⊎_elim
+    (λ e. rw e (sym (ap (λ k. is_running (place t k).state) (eqb-true q i e) ∙ left_rests (place t i).state l)))
+    (λ e. rw e refl)
+    (cases_Bool (eqb q i))
 
 -- HANDLES
 
 -- no handle of a running process is past the last
 pub past_none : (t : Tables) (w : Worlds) (p h : ℕ) → Tabled t w → RunsAt t p → t.sizes.handles ≤ h → is_none (handle_of core w p h) ≡ true
-unfolding is_none handle_of
+unfolding handle_of
 past_none t w p h e r l = ap is_none (get_or_past (process core w p).handles h None (omega (arith, (e.each p).count r.1)))
 
 module _ (w : Worlds) (p h : ℕ) where
@@ -100,24 +102,24 @@ module _ (w : Worlds) (p h : ℕ) where
 
 -- OPEN
 
--- the lowest of all, as a search from 0 on finds it
-pub from_first : (test : ℕ → Bool) (n k : ℕ) → k ≡ lowest_from test 0 (n - 0) → k ≡ lowest test n
-from_first test n k e = let m : n - 0 ≡ n = omega arith in e ∙ ap (lowest_from test 0) m
-
 module _ (z : Sizes) (w : Worlds) (p f : ℕ) where
-  pub opens_none : (e : End) → e ≡ named z w f → true ≡ is_nothing e → turned_down w ≡ opens core z w p f
-  unfolding opens
-  opens_none e n t = sym (pick_true _ _ _ (rw (← n, ← t)))
+  pub opens_none : Nothing ≡ named z w f → turned_down w ≡ opens core z w p f
+  unfolding opens is_nothing
+  opens_none n = sym (pick_true _ _ _ (rw (← n) refl))
 
-  pub opens_full : (k : ℕ) → k ≡ free_open core z w → z.opens ≤ k → turned_down w ≡ opens core z w p f
+  pub opens_full : None ≡ one_of z.opens (free_open core z w) → turned_down w ≡ opens core z w p f
   unfolding opens
-  opens_full k a l = sym (pick_true _ _ _ (rw (← a, le-leb _ _ l) (or_true _)))
+  opens_full a = sym (pick_true _ _ _ (rw (le-leb _ _ (none_of _ _ a)) (or_true _)))
 
-  pub opens_held : (h : ℕ) → h ≡ free_handle z (process core w p) → z.handles ≤ h → turned_down w ≡ opens core z w p f
+  pub opens_held : None ≡ one_of z.handles (free_handle z (process core w p)) → turned_down w ≡ opens core z w p f
   unfolding opens
-  opens_held h a l = sym (pick_true _ _ _ (rw (← a, le-leb _ _ l) (ap (λ b. is_nothing (named z w f) || b) (or_true _) ∙ or_true _)))
+  opens_held a = sym (pick_true _ _ _ (rw (le-leb _ _ (none_of _ _ a)) (ap (λ b. is_nothing (named z w f) || b) (or_true _) ∙ or_true _)))
 
-  pub opens_one : (e : End) (k h : ℕ) → e ≡ named z w f → false ≡ is_nothing e → k ≡ free_open core z w → k < z.opens → h ≡ free_handle z (process core w p) → h < z.handles →
+  pub opens_one : (e : End) (k h : ℕ) → e ≡ named z w f → false ≡ is_nothing e → Some k ≡ one_of z.opens (free_open core z w) → Some h ≡ one_of z.handles (free_handle z (process core w p)) →
       answers (with_handle core (with_open w k (record { end = e; at = 0 })) p h (Some k)) h ≡ opens core z w p f
   unfolding opens
-  opens_one e k h n t a l b m = rw (← n, ← a, ← b) (sym (pick_false _ _ _ (rw (← t, lt-leb _ _ l, lt-leb _ _ m))))
+  opens_one e k h n t a b =
+      let l = some_of _ _ _ a in let m = some_of _ _ _ b in rw (← n, ← l.0, ← m.0) (sym (pick_false _ _ _ (rw (← t, lt-leb _ _ l.1, lt-leb _ _ m.1))))
+
+-- for grind, at the calls
+pub ruleset calls = (down, waiting, answered, forks_none, forks_one, waits_alone, waits_on, waits_over, reaped_rests, closes_none, closes_one, copies_none, copies_past, copies_one, opens_none, opens_full, opens_held, opens_one, open_first, handle_first, children_are, left_is)

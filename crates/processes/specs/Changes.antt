@@ -1,40 +1,25 @@
 -- One thing of the tables changed, all else as it was. Assumes nothing: these are definitions.
-use Rattle.std.specs.Prelude.{◌≡◌, ℕ, List, ◌∷◌, replicate, Some, None, Option, ◌==◌, slice_set}
-use Rattle.octets.specs.Rows.{pick}
+use Rattle.std.specs.Prelude.{ℕ, List, ◌∷◌, replicate, Some, None, Option, ◌==◌, if◌then◌else◌}
 use Rattle.turns.specs.World.{process}
 use Rattle.turns.specs.World as W
 use Rattle.turns.specs.declared.vocabulary.State.{State}
 use Rattle.turns.specs.declared.vocabulary.State.TheVariants.{Free, Runs}
-use Rattle.turns.specs.declared.vocabulary.OpenThing.{OpenThing}
 use Rattle.rv32.specs.declared.cpu.Cpu.{Cpu}
 use Rattle.rv32.specs.Act.{core}
 use Rattle.rv32.specs.Execute.{fresh, answered}
 use Rattle.processes.specs.declared.Process.{Process}
-use Rattle.processes.specs.declared.Tables.{Tables}
-use Rattle.processes.specs.Tabled.{Worlds, place}
-
-abbrev pub with_place : Tables → ℕ → Process → Tables
-with_place t p q = record { sizes = t.sizes; processes = slice_set t.processes p q; opens = t.opens; turn = t.turn; used = t.used }
-
-abbrev pub with_thing : Tables → ℕ → OpenThing → Tables
-with_thing t k o = record { sizes = t.sizes; processes = t.processes; opens = slice_set t.opens k o; turn = t.turn; used = t.used }
-
-abbrev pub with_turn : Tables → ℕ → ℕ → Tables
-with_turn t n u = record { sizes = t.sizes; processes = t.processes; opens = t.opens; turn = n; used = u }
-
-abbrev pub with_cpu : Process → Cpu → Process
-with_cpu q c = record { state = q.state; parent = q.parent; cpu = c; handles = q.handles }
+use Rattle.processes.specs.Tabled.{Worlds}
 
 abbrev pub with_handles : Process → List (Option ℕ) → Process
-with_handles q hs = record { state = q.state; parent = q.parent; cpu = q.cpu; handles = hs }
+with_handles q hs = record q { handles = hs }
 
 -- children of p get process 0 for a parent
 abbrev pub without_parent : ℕ → Process → Process
-without_parent p q = record { state = q.state; parent = pick (q.parent == p) 0 q.parent; cpu = q.cpu; handles = q.handles }
+without_parent p q = record q { parent = if q.parent == p then 0 else q.parent }
 
 -- a place in which nobody runs: no handles are left, and no registers are looked at
 abbrev pub away : State → ℕ → Process → Process
-away s p q = record { state = s; parent = p; cpu = q.cpu; handles = replicate 16 None }
+away s p q = record q { state = s; parent = p; handles = replicate 16 None }
 
 -- a place with nobody in it, before anybody was
 abbrev pub empty : Process
@@ -43,10 +28,6 @@ empty = record { state = Free; parent = 0; cpu = fresh 0; handles = replicate 16
 -- the first process, with n bytes of memory: handles 0, 1 and 2 lead to open thing 0
 abbrev pub first : ℕ → Process
 first n = record { state = Runs; parent = 0; cpu = fresh n; handles = Some 0 ∷ Some 0 ∷ Some 0 ∷ replicate 13 None }
-
--- of all states only that in place p has changed, and is s now
-abbrev pub StatesSet : Tables → Tables → ℕ → State → Type 0
-StatesSet t u p s = (q : ℕ) → (place u q).state ≡ pick (q == p) s (place t q).state
 
 -- IN THE WORLD
 

@@ -1,4 +1,5 @@
 pub mod Tabled
+pub mod Looking
 pub mod Changes
 pub mod Pipes
 pub mod Laws

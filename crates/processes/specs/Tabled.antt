@@ -1,9 +1,9 @@
 -- What tables say of the world. Assumes nothing: these are definitions.
-use Rattle.std.specs.Prelude.{◌≡◌, ℕ, ◌<◌, true, [], length, None, slice_index_or}
-use Rattle.turns.specs.Ranges.{InRange}
+use Rattle.std.specs.Prelude.{◌≡◌, ℕ, ◌<◌, true, [], length, None, slice_index_or, if◌then◌else◌, ◌==◌}
 use Rattle.turns.specs.World.{World, Done, process, opened, closed, is_running}
 use Rattle.turns.specs.World as W
 use Rattle.turns.specs.declared.vocabulary.Sizes.{Sizes}
+use Rattle.turns.specs.declared.vocabulary.State.{State}
 use Rattle.turns.specs.declared.vocabulary.State.TheVariants.{Free}
 use Rattle.turns.specs.declared.vocabulary.End.TheVariants.{Nothing}
 use Rattle.turns.specs.declared.vocabulary.OpenThing.{OpenThing}
@@ -32,15 +32,6 @@ place t p = slice_index_or t.processes p blank
 abbrev pub thing : Tables → ℕ → OpenThing
 thing t k = slice_index_or t.opens k shut
 
--- the arrays are as long as they are made, and the turn is somebody's
-pub record Sound (t : Tables) : Type 0 where
-  pub sizes : InRange t.sizes
-  pub places : length t.processes ≡ 64
-  pub handles : (p : ℕ) → p < 64 → length (place t p).handles ≡ 16
-  pub opens : length t.opens ≡ 256
-  pub turn : t.turn < t.sizes.processes
-  pub used : t.used < t.sizes.turn
-
 -- process q of the tables is process v of the world, but for its memory, of which tables say nothing. Only a process that runs has registers
 pub record Same (z : Sizes) (q : Process) (v : W.Process Cpu) : Type 0 where
   pub state : q.state ≡ v.state
@@ -58,7 +49,7 @@ pub record Tabled (t : Tables) (w : Worlds) : Type 0 where
   pub turn : t.turn ≡ w.turn
   pub used : t.used ≡ w.used
 
--- somebody runs in place p
+-- somebody runs in place p. It is a fact in clauses and no type of its own, since it changes with the tables
 abbrev pub RunsAt : Tables → ℕ → Type 0
 RunsAt t p = (p < t.sizes.processes) × (is_running (place t p).state ≡ true)
 
@@ -66,3 +57,19 @@ RunsAt t p = (p < t.sizes.processes) × (is_running (place t p).state ≡ true)
 pub record Came (t : Tables) (o : Outcome) (d : Done Cpu) : Type 0 where
   pub outcome : o ≡ d.outcome
   pub tabled : Tabled t d.world
+
+-- the sizes are as they were, and so is who is in which state
+pub record Kept (t u : Tables) : Type 0 where
+  pub sizes : u.sizes ≡ t.sizes
+  pub states : (q : ℕ) → (place u q).state ≡ (place t q).state
+
+-- and where the tables t are those of a world, the tables u are those of what f makes of it
+pub record Follows (t u : Tables) (f : Worlds → Worlds) : Type 0 where
+  pub kept : Kept t u
+  pub tabled : (w : Worlds) → Tabled t w → Tabled u (f w)
+
+-- the same, but that the state in place p is s now
+pub record FollowsIn (t u : Tables) (p : ℕ) (s : State) (f : Worlds → Worlds) : Type 0 where
+  pub sizes : u.sizes ≡ t.sizes
+  pub states : (q : ℕ) → (place u q).state ≡ (if q == p then s else (place t q).state)
+  pub tabled : (w : Worlds) → Tabled t w → Tabled u (f w)

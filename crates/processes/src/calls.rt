@@ -1,50 +1,33 @@
 // Calls that are carried out in the tables alone.
-ghost use Rattle.std.specs.Prelude.{◌≡◌, ℕ, ◌<◌, length};
-ghost use Rattle.turns.specs.World.{forks, waits, closes, copies, opens, left_with, is_nothing, is_running};
+ghost use Rattle.std.specs.Prelude.{◌≡◌, ℕ, length};
+ghost use Rattle.turns.specs.World.{forks, waits, closes, copies, opens, is_running};
 ghost use Rattle.rv32.specs.Act.{core};
-ghost use Rattle.processes.specs.Tabled.{Sound, Tabled, Worlds, RunsAt, Came, place};
+ghost use Rattle.processes.specs.Tabled.{Kept, Tabled, Worlds, RunsAt, Came, place};
 
+use crate::Tables;
 use crate::reading::end_named;
-use crate::{Process, Tables};
-use turns::vocabulary::{End, OpenThing, Outcome, State};
+use turns::vocabulary::{End, OpenThing, Outcome};
 
-// The answer of a call that is turned down.
+// The answer of a call that is turned down: the number that the program finds in its register.
 const NO: u32 = 4_294_967_295;
 
-impl Process {
-    // The number with which it has left.
-    fn left_with(&self) -> u8
-        ensures { result ≡ left_with self.now.state }
-    {
-        match self.state {
-            State::Free => 0,
-            State::Runs => 0,
-            State::Left(n) => n,
-        }
-    }
-}
-
+#[tactic(auto, using(crate::proofs::Called::calls), unfolding(turns::specs::World::is_nothing))]
 impl Tables {
     // Fork: the lowest free place gets a child of `p`, which runs; the answer is its place + 1. Its memory is the caller's to copy.
     pub fn fork(&mut self, p: usize) -> Outcome
-        requires sound { Sound self.old }
         requires runs { RunsAt self.old p }
-        ensures sound { Sound self.new }
         ensures sizes { self.new.sizes ≡ self.old.sizes }
         ensures done { (w : Worlds) → Tabled self.old w → Came self.new result (forks core self.old.sizes w p) }
     {
-        let q = self.free_process();
-        if q >= self.sizes.processes as usize {
+        let Some(q) = self.free_process() else {
             return Outcome::Answer(NO);
-        }
+        };
         self.begin_child(p, q);
         Outcome::Answer(q as u32 + 1)
     }
 
     // Wait: of the children of `p` that have left the one in the lowest place becomes free, and its number and place are the answer; while all run it stays.
     pub fn wait(&mut self, p: usize) -> Outcome
-        requires { Sound self.old }
-        ensures sound { Sound self.new }
         ensures sizes { self.new.sizes ≡ self.old.sizes }
         ensures running { (q : ℕ) → is_running (place self.new q).state ≡ is_running (place self.old q).state }
         ensures done { (w : Worlds) → Tabled self.old w → Came self.new result (waits core self.old.sizes w p) }
@@ -52,22 +35,18 @@ impl Tables {
         if !self.has_child(p) {
             return Outcome::Answer(NO);
         }
-        let i = self.left_child(p);
-        if i >= self.sizes.processes as usize {
+        let Some(i) = self.left_child(p) else {
             return Outcome::Stays;
-        }
-        let number = self.processes[i].left_with();
+        };
+        let number = self.left_number(i);
         self.make_free(i);
         Outcome::Answer(number as u32 * 256 + i as u32 + 1)
     }
 
     // Close: handle `h` of `p`, which runs, is free.
     pub fn close(&mut self, p: usize, h: u32) -> Outcome
-        requires sound { Sound self.old }
         requires runs { RunsAt self.old p }
-        ensures sound { Sound self.new }
-        ensures sizes { self.new.sizes ≡ self.old.sizes }
-        ensures states { (q : ℕ) → (place self.new q).state ≡ (place self.old q).state }
+        ensures kept { Kept self.old self.new }
         ensures done { (w : Worlds) → Tabled self.old w → Came self.new result (closes core w p h) }
     {
         let h = h as usize;
@@ -80,11 +59,8 @@ impl Tables {
 
     // Copy: handle `g` of `p`, which runs, is what `h` is, from now on.
     pub fn copy(&mut self, p: usize, h: u32, g: u32) -> Outcome
-        requires sound { Sound self.old }
         requires runs { RunsAt self.old p }
-        ensures sound { Sound self.new }
-        ensures sizes { self.new.sizes ≡ self.old.sizes }
-        ensures states { (q : ℕ) → (place self.new q).state ≡ (place self.old q).state }
+        ensures kept { Kept self.old self.new }
         ensures done { (w : Worlds) → Tabled self.old w → Came self.new result (copies core self.old.sizes w p h g) }
     {
         if !self.has_handle(p, h as usize) {
@@ -100,39 +76,22 @@ impl Tables {
 
     // Open: the lowest free handle of `p`, which runs, leads to the lowest free open thing, for the file or the screen of this name, from its beginning.
     pub fn open(&mut self, p: usize, name: u32) -> Outcome
-        requires sound { Sound self.old }
         requires runs { RunsAt self.old p }
-        ensures sound { Sound self.new }
-        ensures sizes { self.new.sizes ≡ self.old.sizes }
-        ensures states { (q : ℕ) → (place self.new q).state ≡ (place self.old q).state }
+        ensures kept { Kept self.old self.new }
         ensures done { (w : Worlds) → Tabled self.old w → length w.files ≡ self.old.sizes.files → Came self.new result (opens core self.old.sizes w p name) }
     {
         let end = end_named(self.sizes, name);
-        if is_nothing(end) {
+        if end == End::Nothing {
             return Outcome::Answer(NO);
         }
-        let k = self.free_open(0);
-        if k >= self.sizes.opens as usize {
+        let Some(k) = self.free_open(0) else {
             return Outcome::Answer(NO);
-        }
-        let h = self.free_handle(p, 0);
-        if h >= self.sizes.handles as usize {
+        };
+        let Some(h) = self.free_handle(p, 0) else {
             return Outcome::Answer(NO);
-        }
+        };
         self.set_open(k, OpenThing { end, at: 0 });
         self.set_handle(p, h, Some(k as u8));
         Outcome::Answer(h as u32)
-    }
-}
-
-fn is_nothing(end: End) -> bool
-    ensures { result ≡ is_nothing end }
-{
-    match end {
-        End::Nothing => true,
-        End::Screen(_) => false,
-        End::File(_) => false,
-        End::WriteEnd(_) => false,
-        End::ReadEnd(_) => false,
     }
 }

@@ -2,6 +2,9 @@
 // pipes or screens are here: only numbers of them. `Tabled` (specs/Tabled) says of which worlds the tables are.
 #![tactic(auto)]
 
+ghost use Rattle.std.specs.Prelude.{◌<◌};
+ghost use Rattle.turns.specs.Ranges.{InRange};
+
 mod calls;
 mod changing;
 mod handles;
@@ -17,7 +20,7 @@ use rv32::Cpu;
 use turns::vocabulary::{OpenThing, Sizes, State};
 
 // A place for a process, and who is in it. A handle leads to an open thing, by its number, or to none.
-#[derive(Clone, Copy)]
+#[derive(Clone, Copy, Debug, PartialEq, Eq)]
 pub struct Process {
     pub state: State,
     pub parent: u8,
@@ -25,19 +28,22 @@ pub struct Process {
     pub handles: [Option<u8>; 16],
 }
 
-// All places and all open things, as many as there can be at most; `sizes` says how many there are. `turn`: whose turn it is; `used`: how many of its
-// instructions are over.
-#[derive(Clone, Copy)]
+// All places and all open things; `sizes` says how many of them there are. `turn`: whose turn it is; `used`: how many of its instructions are over.
+// The arrays are as long as they can be at most, since a board has fixed memory and no heap; places and open things go by their numbers, as in the world.
+#[derive(Clone, Copy, Debug, PartialEq, Eq)]
 pub struct Tables {
     pub sizes: Sizes,
     pub processes: [Process; 64],
     pub opens: [OpenThing; 256],
     pub turn: u8,
     pub used: u32,
+    pub ghost in_range: { InRange sizes },
+    pub ghost turn_there: { turn < sizes.processes },
+    pub ghost used_within: { used < sizes.turn },
 }
 
 // The two ends of a pipe: its number, the open things that are its ends, and the handles that lead to them.
-#[derive(Clone, Copy)]
+#[derive(Clone, Copy, Debug, PartialEq, Eq)]
 pub struct PipeEnds {
     pub pipe: u8,
     pub read_open: u8,

@@ -3,8 +3,8 @@ ghost use Rattle.std.specs.Prelude.{◌≡◌, ℕ, ◌%◌, ◌<◌, List};
 ghost use Rattle.turns.specs.World.{process, nobody, with_process, orphaned, leaves};
 ghost use Rattle.turns.specs.declared.vocabulary.State.TheVariants.{Free, Runs, Left};
 ghost use Rattle.rv32.specs.Act.{core};
-ghost use Rattle.processes.specs.Tabled.{Sound, Tabled, Worlds, RunsAt, place};
-ghost use Rattle.processes.specs.Changes.{without_parent, away, child, begun, StatesSet};
+ghost use Rattle.processes.specs.Tabled.{Follows, FollowsIn, RunsAt};
+ghost use Rattle.processes.specs.Changes.{without_parent, away, child, begun};
 
 use crate::{Process, Tables};
 use rv32::Cpu;
@@ -15,7 +15,7 @@ impl Process {
     fn lose_parent(&mut self, p: usize)
         ensures { self.new ≡ without_parent p self.old }
     {
-        if self.parent as usize == p {
+        if usize::from(self.parent) == p {
             self.parent = 0;
         }
     }
@@ -33,25 +33,17 @@ impl Process {
 impl Tables {
     // Children of `p` get process 0 for a parent.
     fn orphan(&mut self, p: usize)
-        requires { Sound self.old }
-        ensures sound { Sound self.new }
-        ensures sizes { self.new.sizes ≡ self.old.sizes }
-        ensures states { (q : ℕ) → (place self.new q).state ≡ (place self.old q).state }
-        ensures tabled { (w : Worlds) → Tabled self.old w → Tabled self.new (orphaned w p) }
+        ensures { Follows self.old self.new (λ w. orphaned w p) }
     {
-        for q in 0..64 {
-            self.processes[q].lose_parent(p);
+        for process in &mut self.processes {
+            process.lose_parent(p);
         }
     }
 
     // Process `p` has left, with `n` modulo 256; its handles are gone; its children get parent 0.
     pub fn leave(&mut self, p: usize, n: u32)
-        requires sound { Sound self.old }
         requires there { p < self.old.sizes.processes }
-        ensures sound { Sound self.new }
-        ensures sizes { self.new.sizes ≡ self.old.sizes }
-        ensures states { StatesSet self.old self.new p (Left (n % 256)) }
-        ensures tabled { (w : Worlds) → Tabled self.old w → Tabled self.new (leaves core w p n).world }
+        ensures { FollowsIn self.old self.new p (Left (n % 256)) (λ w. (leaves core w p n).world) }
     {
         let parent = self.processes[p].parent;
         self.orphan(p);
@@ -60,13 +52,9 @@ impl Tables {
 
     // In place `q` begins a child of `p`, which runs: it is what the parent is, and goes on with 0.
     pub fn begin_child(&mut self, p: usize, q: usize)
-        requires sound { Sound self.old }
         requires runs { RunsAt self.old p }
         requires there { q < self.old.sizes.processes }
-        ensures sound { Sound self.new }
-        ensures sizes { self.new.sizes ≡ self.old.sizes }
-        ensures states { StatesSet self.old self.new q Runs }
-        ensures tabled { (w : Worlds) → Tabled self.old w → Tabled self.new (with_process w q (child w p)) }
+        ensures { FollowsIn self.old self.new q Runs (λ w. with_process w q (child w p)) }
     {
         let mut child = self.processes[p];
         child.state = State::Runs;
@@ -77,24 +65,16 @@ impl Tables {
 
     // Process `p`, which runs, begins another program, in a memory with the program in it; handles are kept.
     pub fn begin_program(&mut self, p: usize)
-        requires sound { Sound self.old }
         requires runs { RunsAt self.old p }
-        ensures sound { Sound self.new }
-        ensures sizes { self.new.sizes ≡ self.old.sizes }
-        ensures states { (q : ℕ) → (place self.new q).state ≡ (place self.old q).state }
-        ensures tabled { (w : Worlds) (m : List ℕ) → Tabled self.old w → Tabled self.new (with_process w p (begun self.old.sizes.memory m (process core w p))) }
+        ensures { (m : List ℕ) → Follows self.old self.new (λ w. with_process w p (begun self.old.sizes.memory m (process core w p))) }
     {
         self.processes[p].cpu = Cpu::start(self.sizes.memory);
     }
 
     // Nobody is in place `p` from now on.
     pub(crate) fn make_free(&mut self, p: usize)
-        requires sound { Sound self.old }
         requires there { p < self.old.sizes.processes }
-        ensures sound { Sound self.new }
-        ensures sizes { self.new.sizes ≡ self.old.sizes }
-        ensures states { StatesSet self.old self.new p Free }
-        ensures tabled { (w : Worlds) → Tabled self.old w → Tabled self.new (with_process w p (nobody core)) }
+        ensures { FollowsIn self.old self.new p Free (λ w. with_process w p (nobody core)) }
     {
         self.processes[p].put_away(State::Free, 0);
     }

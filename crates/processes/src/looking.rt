@@ -1,18 +1,27 @@
-// Looking at the tables: each answer is the world's.
-ghost use Rattle.std.specs.Prelude.{◌≡◌, ℕ, ◌+◌, ◌-◌, ◌<◌, ◌≤◌, true, not, ◌&&◌, ◌||◌, length};
-ghost use Rattle.octets.specs.Rows.{some, lowest_from};
-ghost use Rattle.turns.specs.World.{runs_in, has_open, in_use, is_write_end, is_read_end, opened, writers, readers, free_process, free_open, free_pipe};
-ghost use Rattle.turns.specs.World.{is_child, is_free, is_left, is_running, left_child, process};
+// Looking at the tables: what is seen there (specs/Looking), which is the world's answer.
+ghost use Rattle.std.specs.Prelude.{◌≡◌, ◌<◌, true, ◌&&◌, ◌||◌, IfSome};
+ghost use Rattle.std.specs.List.{range_with_len, list_any};
+ghost use Rattle.turns.specs.World.{runs_in, writers, readers, free_process, is_free, is_left, left_with, is_running};
 ghost use Rattle.rv32.specs.Act.{core};
-ghost use Rattle.processes.specs.Tabled.{Sound, Tabled, Worlds, place};
+ghost use Rattle.processes.specs.Tabled.{Tabled, Worlds, place, thing};
+ghost use Rattle.processes.specs.declared.looking.Side.TheVariants.{Writing, Reading};
+ghost use Rattle.processes.specs.Looking.{one_of, holds_open, open_in_use, lowest_free_place, lowest_free_open, is_end, end_in_use, lowest_free_pipe};
+ghost use Rattle.processes.specs.Looking.{child_at, lowest_left_child};
 
 use crate::Tables;
 use turns::vocabulary::End;
 
+// The two sides of a pipe.
+#[derive(Clone, Copy, Debug, PartialEq, Eq)]
+enum Side {
+    Writing,
+    Reading,
+}
+
 impl Tables {
     // Whether somebody runs in place `p`.
+    #[tactic(auto, unfolding(turns::specs::World::runs_in))]
     pub fn runs_in(&self, p: usize) -> bool
-        requires sound { Sound self.now }
         requires there { p < 64 }
         ensures seen { result ≡ is_running (place self.now p).state }
         ensures runs { (w : Worlds) → Tabled self.now w → result ≡ runs_in core w p }
@@ -22,189 +31,138 @@ impl Tables {
 
     // Whether process `p` runs and has a handle on the open thing `k`.
     fn has_open(&self, k: usize, p: usize) -> bool
-        requires sound { Sound self.now }
         requires there { p < 64 }
-        ensures { (w : Worlds) → Tabled self.now w → result ≡ has_open core w k p }
+        ensures { result ≡ holds_open self.now k p }
     {
         self.processes[p].runs() && self.processes[p].holds(k, self.sizes.handles as usize)
     }
 
     // Whether the open thing `k` is in use: somebody who runs has a handle on it.
-    pub(crate) fn in_use(&self, k: usize) -> bool
-        requires { Sound self.now }
-        ensures { (w : Worlds) → Tabled self.now w → result ≡ in_use core w k }
+    fn in_use(&self, k: usize) -> bool
+        ensures { result ≡ open_in_use self.now k }
     {
-        for p in 0..self.sizes.processes as usize {
-            if self.has_open(k, p) {
-                return true;
-            }
-        }
-        false
+        (0..self.sizes.processes as usize).any(|p| self.has_open(k, p))
     }
 
-    // The lowest place with nobody in it; the number of places if there is none.
-    pub fn free_process(&self) -> usize
-        requires { Sound self.now }
-        ensures number { (w : Worlds) → Tabled self.now w → result ≡ free_process core self.now.sizes w }
-        ensures within { result ≤ self.now.sizes.processes }
-        ensures found { result < self.now.sizes.processes → is_free (place self.now result).state ≡ true }
+    // The lowest place with nobody in it, as it is seen here.
+    fn lowest_free(&self) -> Option<usize>
+        ensures seen { result ≡ lowest_free_place self.now }
+        ensures found { IfSome result (λ p. (p < self.now.sizes.processes) × (is_free (place self.now p).state ≡ true)) }
     {
-        let mut p = 0;
-        while p < self.sizes.processes as usize && !self.processes[p].is_free() {
-            p += 1;
-        }
-        p
+        (0..self.sizes.processes as usize).find(|&p| self.processes[p].is_free())
     }
 
-    // The lowest open thing from `from` on that is not in use; the number of open things, or `from` if that is more, if there is none.
-    pub(crate) fn free_open(&self, from: usize) -> usize
-        requires { Sound self.now }
-        ensures number { (w : Worlds) → Tabled self.now w → result ≡ lowest_from (λ k. not (in_use core w k)) from (self.now.sizes.opens - from) }
-        ensures within { result ≤ from + self.now.sizes.opens }
-        ensures behind { from ≤ result }
+    // The lowest place with nobody in it.
+    #[tactic(auto, using(crate::proofs::Seeing::place_is))]
+    pub fn free_process(&self) -> Option<usize>
+        ensures number { (w : Worlds) → Tabled self.now w → result ≡ one_of self.now.sizes.processes (free_process core self.now.sizes w) }
+        ensures found { IfSome result (λ p. (p < self.now.sizes.processes) × (is_free (place self.now p).state ≡ true)) }
     {
-        let mut k = from;
-        while k < self.sizes.opens as usize && self.in_use(k) {
-            k += 1;
-        }
-        k
+        self.lowest_free()
     }
 
-    // Whether the open thing `k` is in use and is an end to write into pipe `j`.
-    fn is_writer(&self, j: usize, k: usize) -> bool
-        requires sound { Sound self.now }
+    // The lowest open thing from `from` on that is not in use.
+    pub(crate) fn free_open(&self, from: usize) -> Option<usize>
+        ensures seen { result ≡ lowest_free_open self.now from }
+        ensures within { IfSome result (λ k. k < self.now.sizes.opens) }
+    {
+        (from..self.sizes.opens as usize).find(|&k| !self.in_use(k))
+    }
+
+    // Whether the open thing `k` is in use and is an end of pipe `j`, on this side.
+    fn is_used_end(&self, side: Side, j: usize, k: usize) -> bool
         requires there { k < 256 }
-        ensures { (w : Worlds) → Tabled self.now w → result ≡ (is_write_end j (opened w k).end && in_use core w k) }
+        ensures { result ≡ (is_end side j (thing self.now k).end && open_in_use self.now k) }
     {
-        is_write_end(self.opens[k].end, j) && self.in_use(k)
+        is_end(self.opens[k].end, side, j) && self.in_use(k)
     }
 
-    // Whether the open thing `k` is in use and is an end to read from pipe `j`.
-    fn is_reader(&self, j: usize, k: usize) -> bool
-        requires sound { Sound self.now }
-        requires there { k < 256 }
-        ensures { (w : Worlds) → Tabled self.now w → result ≡ (is_read_end j (opened w k).end && in_use core w k) }
+    // Whether pipe `j` has an end in use, on this side.
+    fn has_end(&self, side: Side, j: usize) -> bool
+        ensures { result ≡ end_in_use self.now side j }
     {
-        is_read_end(self.opens[k].end, j) && self.in_use(k)
+        (0..self.sizes.opens as usize).any(|k| self.is_used_end(side, j, k))
     }
 
     // Whether somebody can write into pipe `j`.
+    #[tactic(auto, using(crate::proofs::Seeing::writes_is))]
     pub fn writers(&self, j: usize) -> bool
-        requires { Sound self.now }
         ensures { (w : Worlds) → Tabled self.now w → result ≡ writers core w j }
     {
-        for k in 0..self.sizes.opens as usize {
-            if self.is_writer(j, k) {
-                return true;
-            }
-        }
-        false
+        self.has_end(Side::Writing, j)
     }
 
     // Whether somebody can read from pipe `j`.
+    #[tactic(auto, using(crate::proofs::Seeing::reads_is))]
     pub fn readers(&self, j: usize) -> bool
-        requires { Sound self.now }
         ensures { (w : Worlds) → Tabled self.now w → result ≡ readers core w j }
     {
-        for k in 0..self.sizes.opens as usize {
-            if self.is_reader(j, k) {
-                return true;
-            }
-        }
-        false
+        self.has_end(Side::Reading, j)
     }
 
     // Whether pipe `j` has an end in use.
-    fn has_end(&self, j: usize) -> bool
-        requires { Sound self.now }
-        ensures { (w : Worlds) → Tabled self.now w → result ≡ (writers core w j || readers core w j) }
+    fn is_open_pipe(&self, j: usize) -> bool
+        ensures { result ≡ (end_in_use self.now Writing j || end_in_use self.now Reading j) }
     {
-        self.writers(j) || self.readers(j)
+        self.has_end(Side::Writing, j) || self.has_end(Side::Reading, j)
     }
 
-    // The lowest pipe with no end in use; the number of pipes if there is none.
-    pub(crate) fn free_pipe(&self) -> usize
-        requires { Sound self.now }
-        ensures number { (w : Worlds) → Tabled self.now w → result ≡ free_pipe core self.now.sizes w }
-        ensures within { result ≤ self.now.sizes.pipes }
+    // The lowest pipe with no end in use.
+    pub(crate) fn free_pipe(&self) -> Option<usize>
+        ensures seen { result ≡ lowest_free_pipe self.now }
+        ensures within { IfSome result (λ j. j < self.now.sizes.pipes) }
     {
-        let mut j = 0;
-        while j < self.sizes.pipes as usize && self.has_end(j) {
-            j += 1;
-        }
-        j
+        (0..self.sizes.pipes as usize).find(|&j| !self.is_open_pipe(j))
     }
 
     // Whether in place `i` there is a child of `p`; process 0 is nobody's child.
     fn is_child(&self, p: usize, i: usize) -> bool
-        requires sound { Sound self.now }
         requires there { i < 64 }
-        ensures { (w : Worlds) → Tabled self.now w → result ≡ is_child core w p i }
+        ensures { result ≡ child_at self.now p i }
     {
-        if i == 0 {
-            return false;
-        }
-        !self.processes[i].is_free() && self.processes[i].parent as usize == p
+        i != 0 && !self.processes[i].is_free() && usize::from(self.processes[i].parent) == p
     }
 
     // Whether `p` has a child.
     pub(crate) fn has_child(&self, p: usize) -> bool
-        requires { Sound self.now }
-        ensures { (w : Worlds) → Tabled self.now w → result ≡ some (is_child core w p) self.now.sizes.processes }
+        ensures { result ≡ list_any (child_at self.now p) (range_with_len 0 self.now.sizes.processes) }
     {
-        for i in 0..self.sizes.processes as usize {
-            if self.is_child(p, i) {
-                return true;
-            }
-        }
-        false
+        (0..self.sizes.processes as usize).any(|i| self.is_child(p, i))
     }
 
     // Whether in place `i` there is a child of `p` that has left.
     fn is_left_child(&self, p: usize, i: usize) -> bool
-        requires sound { Sound self.now }
         requires there { i < 64 }
-        ensures child { (w : Worlds) → Tabled self.now w → result ≡ (is_child core w p i && is_left (process core w i).state) }
-        ensures left { result ≡ true → is_left (place self.now i).state ≡ true }
+        ensures { result ≡ (child_at self.now p i && is_left (place self.now i).state) }
     {
         self.is_child(p, i) && self.processes[i].has_left()
     }
 
-    // The lowest place with a child of `p` that has left; the number of places if there is none.
-    pub(crate) fn left_child(&self, p: usize) -> usize
-        requires { Sound self.now }
-        ensures number { (w : Worlds) → Tabled self.now w → result ≡ left_child core self.now.sizes w p }
-        ensures within { result ≤ self.now.sizes.processes }
-        ensures found { result < self.now.sizes.processes → is_left (place self.now result).state ≡ true }
+    // The lowest place with a child of `p` that has left.
+    pub(crate) fn left_child(&self, p: usize) -> Option<usize>
+        ensures seen { result ≡ lowest_left_child self.now p }
+        ensures found { IfSome result (λ i. (i < self.now.sizes.processes) × (is_left (place self.now i).state ≡ true)) }
     {
-        let mut i = 0;
-        while i < self.sizes.processes as usize && !self.is_left_child(p, i) {
-            i += 1;
-        }
-        i
+        (0..self.sizes.processes as usize).find(|&i| self.is_left_child(p, i))
+    }
+
+    // The number with which the process in place `i` has left.
+    pub(crate) fn left_number(&self, i: usize) -> u8
+        requires there { i < 64 }
+        requires left { is_left (place self.now i).state ≡ true }
+        ensures { result ≡ left_with (place self.now i).state }
+    {
+        self.processes[i].left_with().unwrap()
     }
 }
 
-fn is_write_end(end: End, j: usize) -> bool
-    ensures { result ≡ is_write_end j end }
+// Whether this is an end of pipe `j`, on this side.
+#[tactic(auto, unfolding(turns::specs::World::is_write_end, turns::specs::World::is_read_end))]
+fn is_end(end: End, side: Side, j: usize) -> bool
+    ensures { result ≡ is_end side j end }
 {
-    match end {
-        End::Nothing => false,
-        End::Screen(_) => false,
-        End::File(_) => false,
-        End::WriteEnd(i) => i as usize == j,
-        End::ReadEnd(_) => false,
-    }
-}
-
-fn is_read_end(end: End, j: usize) -> bool
-    ensures { result ≡ is_read_end j end }
-{
-    match end {
-        End::Nothing => false,
-        End::Screen(_) => false,
-        End::File(_) => false,
-        End::WriteEnd(_) => false,
-        End::ReadEnd(i) => i as usize == j,
+    match (side, end) {
+        (Side::Writing, End::WriteEnd(i)) | (Side::Reading, End::ReadEnd(i)) => usize::from(i) == j,
+        _ => false,
     }
 }

@@ -1,18 +1,14 @@
 // Turns: whose it is, and how much of it is over.
-ghost use Rattle.std.specs.Prelude.{◌≡◌, ℕ, ◌<◌, ◌≤◌};
+ghost use Rattle.std.specs.Prelude.{◌≡◌, ◌<◌, ◌≤◌};
 ghost use Rattle.turns.specs.World.{after_turn, passes, spends};
-ghost use Rattle.processes.specs.Tabled.{Sound, Tabled, Worlds, place};
+ghost use Rattle.processes.specs.Tabled.{Follows};
 
 use crate::Tables;
 
 impl Tables {
     // The turn passes on.
     pub fn pass(&mut self)
-        requires { Sound self.old }
-        ensures sound { Sound self.new }
-        ensures sizes { self.new.sizes ≡ self.old.sizes }
-        ensures states { (q : ℕ) → (place self.new q).state ≡ (place self.old q).state }
-        ensures tabled { (w : Worlds) → Tabled self.old w → Tabled self.new (passes self.old.sizes w) }
+        ensures { Follows self.old self.new (passes self.old.sizes) }
     {
         self.turn = next_turn(self.sizes.processes, self.turn);
         self.used = 0;
@@ -20,11 +16,7 @@ impl Tables {
 
     // One instruction of the turn is over.
     pub fn spend(&mut self)
-        requires { Sound self.old }
-        ensures sound { Sound self.new }
-        ensures sizes { self.new.sizes ≡ self.old.sizes }
-        ensures states { (q : ℕ) → (place self.new q).state ≡ (place self.old q).state }
-        ensures tabled { (w : Worlds) → Tabled self.old w → Tabled self.new (spends self.old.sizes w) }
+        ensures { Follows self.old self.new (spends self.old.sizes) }
     {
         if self.used + 1 < self.sizes.turn {
             self.used += 1;
@@ -35,6 +27,7 @@ impl Tables {
 }
 
 // The place behind this one; after the last comes place 0.
+#[tactic(auto, unfolding(octets::specs::Rows::pick))]
 fn next_turn(places: u32, turn: u8) -> u8
     requires few { places ≤ 64 }
     requires there { turn < places }

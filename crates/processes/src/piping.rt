@@ -1,6 +1,6 @@
 // The ends of a new pipe.
-ghost use Rattle.std.specs.Prelude.{◌≡◌, ℕ, ◌<◌, List};
-ghost use Rattle.processes.specs.Tabled.{Sound, Tabled, Worlds, RunsAt, place};
+ghost use Rattle.std.specs.Prelude.{ℕ, ◌<◌, List};
+ghost use Rattle.processes.specs.Tabled.{Follows, Tabled, Worlds, RunsAt};
 ghost use Rattle.processes.specs.Pipes.{Found, piped};
 
 use crate::{PipeEnds, Tables};
@@ -8,25 +8,16 @@ use turns::vocabulary::{End, OpenThing};
 
 impl Tables {
     // The lowest free pipe, the two lowest free open things and the two lowest free handles of `p`, if there are as many.
+    #[tactic(auto, using(crate::proofs::Piped::ends))]
     pub fn find_pipe(&self, p: usize) -> Option<PipeEnds>
-        requires sound { Sound self.now }
         requires there { p < 64 }
         ensures { (w : Worlds) → Tabled self.now w → Found self.now.sizes w p result }
     {
-        let pipe = self.free_pipe();
-        if pipe >= self.sizes.pipes as usize {
-            return None;
-        }
-        let read_open = self.free_open(0);
-        let write_open = self.free_open(read_open + 1);
-        if write_open >= self.sizes.opens as usize {
-            return None;
-        }
-        let read_handle = self.free_handle(p, 0);
-        let write_handle = self.free_handle(p, read_handle + 1);
-        if write_handle >= self.sizes.handles as usize {
-            return None;
-        }
+        let pipe = self.free_pipe()?;
+        let read_open = self.free_open(0)?;
+        let write_open = self.free_open(read_open + 1)?;
+        let read_handle = self.free_handle(p, 0)?;
+        let write_handle = self.free_handle(p, read_handle + 1)?;
         Some(PipeEnds {
             pipe: pipe as u8,
             read_open: read_open as u8,
@@ -38,14 +29,10 @@ impl Tables {
 
     // The ends of a new pipe are put into the tables, for `p`, which runs. The pipe's bytes, and the handles' numbers in memory, are the caller's to put.
     pub fn put_pipe(&mut self, p: usize, ends: PipeEnds)
-        requires sound { Sound self.old }
         requires runs { RunsAt self.old p }
         requires opens { (ends.read_open < self.old.sizes.opens) × (ends.write_open < self.old.sizes.opens) }
         requires handles { (ends.read_handle < self.old.sizes.handles) × (ends.write_handle < self.old.sizes.handles) }
-        ensures sound { Sound self.new }
-        ensures sizes { self.new.sizes ≡ self.old.sizes }
-        ensures states { (q : ℕ) → (place self.new q).state ≡ (place self.old q).state }
-        ensures tabled { (w : Worlds) (m : List ℕ) → Tabled self.old w → Tabled self.new (piped w p ends m) }
+        ensures { (m : List ℕ) → Follows self.old self.new (λ w. piped w p ends m) }
     {
         let reads = OpenThing {
             end: End::ReadEnd(ends.pipe),

@@ -1,17 +1,17 @@
 // What handles lead to, and what names stand for.
-ghost use Rattle.std.specs.Prelude.{◌≡◌, ℕ, ◌+◌, ◌-◌, ◌<◌, ◌≤◌, true, not, length, None, slice_index_or};
-ghost use Rattle.octets.specs.Rows.{lowest_from};
-ghost use Rattle.turns.specs.World.{handle_of, end_behind, end_of, opened, is_none, process, named};
+ghost use Rattle.std.specs.Prelude.{◌≡◌, ◌<◌, ◌≤◌, true, not, length, is_none, IfSome};
+ghost use Rattle.turns.specs.World.{handle_of, end_of, opened, named};
 ghost use Rattle.rv32.specs.Act.{core};
-ghost use Rattle.processes.specs.Tabled.{Sound, Tabled, Worlds, RunsAt, thing};
+ghost use Rattle.processes.specs.Tabled.{Tabled, Worlds, RunsAt, thing};
+ghost use Rattle.processes.specs.Looking.{lowest_free_handle};
 
 use crate::Tables;
 use turns::vocabulary::{End, OpenThing, Sizes};
 
 impl Tables {
     // What handle `h` of process `p` leads to.
+    #[tactic(auto, unfolding(turns::specs::World::handle_of))]
     pub fn handle_of(&self, p: usize, h: usize) -> Option<u8>
-        requires sound { Sound self.now }
         requires there { p < 64 }
         ensures { (w : Worlds) → Tabled self.now w → result ≡ handle_of core w p h }
     {
@@ -19,8 +19,8 @@ impl Tables {
     }
 
     // Whether handle `h` of process `p`, which runs, leads to an open thing.
+    #[tactic(auto, using(crate::proofs::Called::past_none), unfolding(turns::specs::World::handle_of))]
     pub(crate) fn has_handle(&self, p: usize, h: usize) -> bool
-        requires sound { Sound self.now }
         requires runs { RunsAt self.now p }
         ensures leads { (w : Worlds) → Tabled self.now w → result ≡ not (is_none (handle_of core w p h)) }
         ensures within { result ≡ true → h < self.now.sizes.handles }
@@ -30,7 +30,6 @@ impl Tables {
 
     // The open thing `k`.
     pub fn open_thing(&self, k: u8) -> OpenThing
-        requires { Sound self.now }
         ensures same { result ≡ thing self.now k }
         ensures opened { (w : Worlds) → Tabled self.now w → result ≡ opened w k }
     {
@@ -38,30 +37,27 @@ impl Tables {
     }
 
     // The end behind handle `h` of process `p`.
+    #[tactic(auto, unfolding(turns::specs::World::end_of, turns::specs::World::end_behind))]
     pub fn end_of(&self, p: usize, h: usize) -> End
-        requires sound { Sound self.now }
         requires there { p < 64 }
         ensures { (w : Worlds) → Tabled self.now w → result ≡ end_of core w p h }
     {
-        match self.handle_of(p, h) {
-            None => End::Nothing,
-            Some(k) => self.open_thing(k).end,
-        }
+        self.handle_of(p, h)
+            .map_or(End::Nothing, |k| self.open_thing(k).end)
     }
 
-    // The lowest handle of process `p`, from `from` on, that leads to nothing; the number of handles, or `from` if that is more, if there is none.
-    pub(crate) fn free_handle(&self, p: usize, from: usize) -> usize
-        requires sound { Sound self.now }
+    // The lowest handle of process `p`, from `from` on, that leads to nothing.
+    pub(crate) fn free_handle(&self, p: usize, from: usize) -> Option<usize>
         requires there { p < 64 }
-        ensures number { (w : Worlds) → Tabled self.now w → result ≡ lowest_from (λ h. is_none (slice_index_or (process core w p).handles h None)) from (self.now.sizes.handles - from) }
-        ensures within { result ≤ from + self.now.sizes.handles }
-        ensures behind { from ≤ result }
+        ensures seen { result ≡ lowest_free_handle self.now p from }
+        ensures within { IfSome result (λ h. h < self.now.sizes.handles) }
     {
         self.processes[p].free_handle(from, self.sizes.handles as usize)
     }
 }
 
 // What a name stands for: a file, or behind the files a screen.
+#[tactic(auto, unfolding(octets::specs::Rows::pick, turns::specs::World::named))]
 pub(crate) fn end_named(sizes: Sizes, name: u32) -> End
     requires files { sizes.files ≤ 64 }
     requires screens { sizes.screens ≤ 16 }

@@ -3,7 +3,7 @@ ghost use Rattle.std.specs.Prelude.{◌≡◌, ℕ, List};
 ghost use Rattle.turns.specs.Ranges.{InRange};
 ghost use Rattle.turns.specs.World.{begin};
 ghost use Rattle.rv32.specs.Act.{core};
-ghost use Rattle.processes.specs.Tabled.{Sound, Tabled};
+ghost use Rattle.processes.specs.Tabled.{Tabled};
 ghost use Rattle.processes.specs.Changes.{empty, first};
 
 use crate::{Process, Tables};
@@ -28,9 +28,7 @@ impl Process {
         ensures { result ≡ first memory }
     {
         let mut handles = [None; 16];
-        handles[0] = Some(0);
-        handles[1] = Some(0);
-        handles[2] = Some(0);
+        handles[..3].fill(Some(0));
         Process {
             state: State::Runs,
             parent: 0,
@@ -44,7 +42,6 @@ impl Tables {
     // At the start there is process 0; its handles 0, 1 and 2 lead to open thing 0, which is screen 0.
     pub fn start(sizes: Sizes) -> Tables
         requires { InRange sizes }
-        ensures sound { Sound result }
         ensures sizes { result.sizes ≡ sizes }
         ensures tabled { (files : List (List ℕ)) → Tabled result (begin core sizes files) }
     {

@@ -1,10 +1,12 @@
 -- Rings. Assumes nothing.
 use Rattle.std.proofs.Common.{◌≡◌, ℕ, ◌+◌, ◌-◌, ◌*◌, ◌%◌, ◌<◌, ◌≤◌, List, [], ◌++◌, length, get_or, take, drop, sym, ap, ◌∙◌, ⊎_elim, arith}
-use Rattle.std.proofs.lemmas.List.{ext_get_or, length-append, length-drop, length-take-le, get_or-take, get_or-drop, get_or_append_left, get_or-append_right, take-take, drop-take, take-append-drop, append_assoc}
+use Rattle.std.proofs.lemmas.List.{ext_get_or, length-append, length-drop, length-take-le, get_or-take, get_or-drop, get_or_append_left, get_or-append_right}
 use Rattle.std.proofs.lemmas.Bool.{cases_lt, cases_order}
 use Rattle.std.proofs.lemmas.List.FromFn.{length-map-range_with_len, get_or-map-range_with_len}
+use borrow.Rule.Slice.PartMut.{put_mid}
+use Rattle.octets.proofs.Parts.{part_in, part_low, part_high}
 use Rattle.queues.specs.declared.Queue.{Queue}
-use Rattle.queues.specs.Rings.{Round, waiting, queued, OthersKept, Shorter}
+use Rattle.queues.specs.Rings.{waiting, queued, OthersKept, Shorter, Written}
 
 pub length_queued : (q : Queue) (xs : List ℕ) (t : ℕ) → length (queued q xs t) ≡ q.length
 unfolding queued
@@ -23,31 +25,50 @@ queued_is q xs t bs l h =
 pub queued_none : (q : Queue) (xs : List ℕ) (t : ℕ) → q.length ≡ 0 → queued q xs t ≡ []
 queued_none q xs t e = queued_is q xs t [] (sym e) (λ k l. absurd (omega arith))
 
--- n bytes are put behind the last, from place `at` of the row on
-module _ (q r : Queue) (xs ys bs : List ℕ) (t end at n : ℕ) (s : Round q) (is : end ≡ (q.start + q.length) % 4096) (there : at ≡ t * 4096 + end) (room : end + n ≤ 4096) (fits : q.length + n ≤ 4096)
-    (same : r.start ≡ q.start) (more : r.length ≡ q.length + n) (some : n ≤ length bs) (here : (k : ℕ) → k < n → get_or ys (at + k) 0 ≡ get_or bs k 0)
-    (low : (k : ℕ) → k < at → get_or ys k 0 ≡ get_or xs k 0) (high : (k : ℕ) → at + n ≤ k → get_or ys k 0 ≡ get_or xs k 0) where
+-- a row's byte, where the row is cut out of all
+row_byte : (xs : List ℕ) (at k : ℕ) → k < 4096 → get_or (take (at + 4096 - at) (drop at xs)) k 0 ≡ get_or xs (at + k) 0
+row_byte xs at k h = get_or-take (at + 4096 - at) (drop at xs) k 0 (omega arith) ∙ get_or-drop at xs k 0
+
+-- row t is written to, and no other
+pub put_others : (xs row : List ℕ) (t at : ℕ) → at ≡ t * 4096 → at + 4096 ≤ length xs → length row ≡ 4096 → OthersKept t xs (put_mid at (at + 4096 - at) xs row)
+put_others xs row t at is within long u p ne =
+    queued_is p _ u (queued p xs u) (length_queued p xs u)
+    (λ k l. ⊎_elim (λ (e : u ≡ t). absurd (ne e))
+    (λ o. ⊎_elim
+    (λ (h : u < t). part_low xs row at (at + 4096) (omega arith) (omega arith) within _ (omega arith))
+    (λ (h : t < u). part_high xs row at (at + 4096) (omega arith) (omega arith) within _ (omega arith)) o) (cases_order u t) ∙ sym (get_or_queued p xs u k l))
+
+-- bs is written into row t behind the last byte that waits, where `row` is the row with bs in it
+module _ (q r : Queue) (xs row bs : List ℕ) (t at : ℕ) (is : at ≡ t * 4096) (within : at + 4096 ≤ length xs) (long : length row ≡ 4096) (fits : q.length + length bs ≤ 4096)
+    (same : r.start ≡ q.start) (more : r.length ≡ q.length + length bs)
+    (put : Written (take (at + 4096 - at) (drop at xs)) row ((q.start + q.length) % 4096) bs) where
+  all : List ℕ
+  all = put_mid at (at + 4096 - at) xs row
+
+  in_row : (k : ℕ) → k < 4096 → get_or all (at + k) 0 ≡ get_or row k 0
+  unfolding all
+  in_row k h = part_in xs row at (at + 4096) (omega arith) (omega arith) within k (omega arith)
+
   -- a byte that waited is not written over
-  old_byte : (k : ℕ) → k < q.length → get_or ys (t * 4096 + (q.start + k) % 4096) 0 ≡ get_or xs (t * 4096 + (q.start + k) % 4096) 0
+  old_byte : (k : ℕ) → k < q.length → get_or all (at + (q.start + k) % 4096) 0 ≡ waiting q xs t k
   old_byte k l =
-      ⊎_elim (λ (h : (q.start + k) % 4096 < end). low _ (omega arith)) (λ (h : end ≤ (q.start + k) % 4096). high _ (omega (arith, s.start, s.few))) (cases_lt ((q.start + k) % 4096) end)
+      let j = k + 4096 - q.length in
+      let e : ((q.start + q.length) % 4096 + j) % 4096 ≡ (q.start + k) % 4096 = omega arith in
+      in_row _ (omega arith) ∙ rw e at (put.kept j (omega arith) (omega arith)) ∙ row_byte xs at _ (omega arith) ∙ ap (λ x. get_or xs (x + (q.start + k) % 4096) 0) is
 
-  new_byte : (k : ℕ) → q.length ≤ k → k < q.length + n → get_or ys (t * 4096 + (q.start + k) % 4096) 0 ≡ get_or bs (k - q.length) 0
-  new_byte k h l = let e : t * 4096 + (q.start + k) % 4096 ≡ at + (k - q.length) = omega (arith, s.start) in rw e (here (k - q.length) (omega arith))
+  new_byte : (k : ℕ) → q.length ≤ k → k < q.length + length bs → get_or all (at + (q.start + k) % 4096) 0 ≡ get_or bs (k - q.length) 0
+  new_byte k h l =
+      let e : ((q.start + q.length) % 4096 + (k - q.length)) % 4096 ≡ (q.start + k) % 4096 = omega arith in
+      in_row _ (omega arith) ∙ rw e at (put.here (k - q.length) (omega arith))
 
-  pub put_queued : queued r ys t ≡ queued q xs t ++ take n bs
+  pub put_queued : queued r (put_mid at (at + 4096 - at) xs row) t ≡ queued q xs t ++ bs
+  unfolding all
   put_queued =
-      queued_is r ys t (queued q xs t ++ take n bs) (length-append (queued q xs t) (take n bs) ∙ omega (arith, length_queued q xs t, length-take-le n bs some))
-      (λ k l. rw same (⊎_elim
-      (λ (h : k < q.length). old_byte k h ∙ sym (get_or_queued q xs t k h) ∙ sym (get_or_append_left (queued q xs t) (take n bs) 0 k (omega (arith, length_queued q xs t))))
-      (λ (h : q.length ≤ k). new_byte k h (omega arith) ∙ sym (get_or-take n bs (k - q.length) 0 (omega arith)) ∙ sym (get_or-append_right (queued q xs t) (take n bs) q.length k 0 (length_queued q xs t) h))
+      queued_is r all t (queued q xs t ++ bs) (length-append (queued q xs t) bs ∙ omega (arith, length_queued q xs t))
+      (λ k l. rw (same, ← is) (⊎_elim
+      (λ (h : k < q.length). old_byte k h ∙ sym (get_or_queued q xs t k h) ∙ sym (get_or_append_left (queued q xs t) bs 0 k (omega (arith, length_queued q xs t))))
+      (λ (h : q.length ≤ k). new_byte k h (omega arith) ∙ sym (get_or-append_right (queued q xs t) bs q.length k 0 (length_queued q xs t) h))
       (cases_lt k q.length)))
-
-  pub put_others : OthersKept t xs ys
-  put_others u p ne =
-      queued_is p ys u (queued p xs u) (length_queued p xs u)
-      (λ k l. ⊎_elim (λ (e : u ≡ t). absurd (ne e))
-      (λ o. ⊎_elim (λ (h : u < t). low _ (omega arith)) (λ (h : t < u). high _ (omega arith)) o) (cases_order u t) ∙ sym (get_or_queued p xs u k l))
 
 -- the first n bytes are taken
 pub take_shorter : (q r : Queue) (n : ℕ) → n ≤ q.length → r.start ≡ (q.start + n) % 4096 → r.length ≡ q.length - n → Shorter n q r
@@ -57,26 +78,8 @@ take_shorter q r n h a b xs t =
     let e : (r.start + k) % 4096 ≡ (q.start + (n + k)) % 4096 = omega arith in
     ap (λ x. get_or xs (t * 4096 + x) 0) e ∙ sym (get_or_queued q xs t (n + k) (omega arith)) ∙ sym (get_or-drop n (queued q xs t) k 0))
 
--- the bytes at the front that lie side by side
-module _ (q : Queue) (xs : List ℕ) (t at m : ℕ) (there : at ≡ t * 4096 + q.start) (few : m ≤ q.length) (room : q.start + m ≤ 4096) (row : t * 4096 + 4096 ≤ length xs) where
-  pub front_long : length (take (at + m - at) (drop at xs)) ≡ m
-  front_long = let e : at + m - at ≡ m = omega arith in rw e (length-take-le m (drop at xs) (omega (arith, length-drop at xs)))
-
-  pub front_queued : take (at + m - at) (drop at xs) ≡ take (length (take (at + m - at) (drop at xs))) (queued q xs t)
-  front_queued =
-      rw front_long
-      (ext_get_or 0 _ (take m (queued q xs t)) (front_long ∙ sym (length-take-le m (queued q xs t) (omega (arith, length_queued q xs t))))
-      (λ k l.
-      let h : k < m = omega (arith, front_long) in
-      let e : at + k ≡ t * 4096 + (q.start + k) % 4096 = omega arith in
-      get_or-take (at + m - at) (drop at xs) k 0 (omega arith) ∙ get_or-drop at xs k 0 ∙ ap (λ x. get_or xs x 0) e ∙ sym (get_or_queued q xs t k (omega arith)) ∙ sym (get_or-take m (queued q xs t) k 0 h)))
-
--- the first d bytes of bs came behind qs, and then n more of its first m
-pub take_then : (qs ps rs bs : List ℕ) (d n m : ℕ) → d ≤ m → m ≤ length bs → n ≤ m - d → ps ≡ qs ++ take d bs → rs ≡ ps ++ take n (take (m - d) (drop d bs)) → rs ≡ qs ++ take (d + n) bs
-take_then qs ps rs bs d n m h l k a b =
-    b ∙ ap (λ x. x ++ take n (take (m - d) (drop d bs))) a ∙ append_assoc qs (take d bs) (take n (take (m - d) (drop d bs))) ∙ ap (λ x. qs ++ x) joined
-  where
-    joined : take d bs ++ take n (take (m - d) (drop d bs)) ≡ take (d + n) bs
-    joined =
-        ap (λ x. take d bs ++ x) (take-take n (m - d) (drop d bs) k ∙ sym (drop-take d n bs)) ∙ ap (λ x. x ++ drop d (take (d + n) bs)) (sym (take-take d (d + n) bs (omega arith)))
-        ∙ take-append-drop d (take (d + n) bs)
+-- what was read from row t, from the front on, are the first bytes that wait
+pub read_queued : (q : Queue) (xs out : List ℕ) (t at : ℕ) → at ≡ t * 4096 → length out ≤ q.length → ((k : ℕ) → k < length out → get_or out k 0 ≡ get_or (take (at + 4096 - at) (drop at xs)) ((q.start + k) % 4096) 0) → out ≡ take (length out) (queued q xs t)
+read_queued q xs out t at is few read =
+    ext_get_or 0 out (take (length out) (queued q xs t)) (sym (length-take-le (length out) (queued q xs t) (omega (arith, length_queued q xs t))))
+    (λ k l. read k l ∙ row_byte xs at _ (omega arith) ∙ ap (λ x. get_or xs (x + (q.start + k) % 4096) 0) is ∙ sym (get_or_queued q xs t k (omega arith)) ∙ sym (get_or-take (length out) (queued q xs t) k 0 l))

@@ -1,12 +1,16 @@
 -- A queue of bytes as a ring in a row of 4,096 bytes: behind the row's last byte comes its first. Assumes nothing: these are definitions.
-use Rattle.std.specs.Prelude.{◌≡◌, ℕ, ◌+◌, ◌*◌, ◌%◌, ◌<◌, ◌≤◌, List, [], map, drop, ◌≢◌, slice_index}
+use Rattle.std.specs.Prelude.{◌≡◌, ℕ, ◌+◌, ◌*◌, ◌%◌, ◌<◌, ◌≤◌, List, [], length, map, drop, ◌≢◌, slice_index}
 use Rattle.std.specs.List.{range_with_len}
 use Rattle.queues.specs.declared.Queue.{Queue}
 
--- the front lies in the row, and no more wait than the row has bytes
-pub record Round (q : Queue) : Type 0 where
-  pub start : q.start < 4096
-  pub few : q.length ≤ 4096
+-- the byte at place k of a row that goes round
+abbrev pub round : List ℕ → ℕ → ℕ
+round row k = slice_index row (k % 4096)
+
+-- bs stands in the row from place a on, round its end; what stood there behind those places stands there still
+pub record Written (xs ys : List ℕ) (a : ℕ) (bs : List ℕ) : Type 0 where
+  pub here : (k : ℕ) → k < length bs → round ys (a + k) ≡ slice_index bs k
+  pub kept : (k : ℕ) → length bs ≤ k → k < 4096 → round ys (a + k) ≡ round xs (a + k)
 
 -- byte k of the queue in row t
 abbrev pub waiting : Queue → List ℕ → ℕ → ℕ → ℕ

@@ -15,12 +15,9 @@ unfoldable pub total : Screens → List ℕ → ℕ → ℕ
 total s xs zero = 0
 total s xs (suc t) = total s xs t + length (screen_of s xs t)
 
--- the screens lie one behind the other, from the row's start on and within it
-pub record Packed (s : Screens) (xs : List ℕ) : Type 0 where
-  pub rows : length s.begins ≡ 17
-  pub first : begin_of s 0 ≡ 0
-  pub up : (t : ℕ) → t < 16 → begin_of s t ≤ begin_of s (t + 1)
-  pub last : begin_of s 16 ≤ length xs
+-- the screens lie within the row; that they lie one behind the other, from its start on, is in the type
+abbrev pub Within : Screens → List ℕ → Type 0
+Within s xs = begin_of s 16 ≤ length xs
 
 -- screen t shows bs behind what it showed; the others show what they showed, so that there are just so many bytes more
 pub record Appended (s : Screens) (xs : List ℕ) (r : Screens) (ys : List ℕ) (t : ℕ) (bs : List ℕ) : Type 0 where

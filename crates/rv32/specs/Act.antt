@@ -1,5 +1,5 @@
 -- What the instruction at hand does in a memory that is a row of bytes: the core of the world. Assumes nothing: these are definitions.
-use Rattle.std.specs.Prelude.{◌≡◌, ℕ, ◌+◌, ◌%◌, ◌≤◌, Bool, cond, ◌&&◌, List, [], ◌∷◌, length, ◌==◌, nat_le, slice_index}
+use Rattle.std.specs.Prelude.{◌≡◌, ℕ, ◌+◌, ◌%◌, ◌≤◌, Bool, if◌then◌else◌, ◌&&◌, List, [], ◌∷◌, length, Some, None, Option, ◌==◌, nat_le, slice_index}
 use Rattle.octets.specs.Words.{half_at, word_at, half_bytes, word_bytes}
 use Rattle.turns.specs.Core.{Act, Core}
 use Rattle.turns.specs.Core.Act.{quiet, store, asks, wrong}
@@ -48,40 +48,39 @@ abbrev pub meets : ℕ → ℕ → ℕ → Bool
 meets size a n = a % n == 0 && nat_le (a + n) size
 
 -- what is left to do when the registers are done with, done in a memory
-unfoldable pub effected : List ℕ → Effect × Cpu → Act Cpu
-effected m e = elim e.0 [
-  | E.Quiet ↦ quiet e.1
-  | E.Load width rd a ↦ cond (meets (length m) a (load_size width)) (quiet (finished e.1 rd (loaded width m a))) wrong
-  | E.Store width a v ↦ cond (meets (length m) a (store_size width)) (store a (stored width v) e.1) wrong
-  | E.Call call ↦ asks call
-  | E.Wrong ↦ wrong
-]
+unfoldable pub completed : List ℕ → Effect → Cpu → Act Cpu
+completed m E.Quiet c = quiet c
+completed m (E.Load width rd a) c = if meets (length m) a (load_size width) then quiet (finished c rd (loaded width m a)) else wrong
+completed m (E.Store width a v) c = if meets (length m) a (store_size width) then store a (stored width v) c else wrong
+completed m (E.Call call) c = asks call
+
+-- the same of an instruction that may be wrong
+unfoldable pub effected : List ℕ → Option Effect × Cpu → Act Cpu
+effected m e = elim e.0 [ None ↦ wrong | Some effect ↦ completed m effect e.1 ]
 
 -- the word at the pc is fetched and carried out; a pc that does not meet the memory is wrong
 unfoldable pub act_of : Cpu → List ℕ → Act Cpu
-act_of c m = cond (meets (length m) c.pc 4) (effected m (performed (word_at m c.pc) c)) wrong
+act_of c m = if meets (length m) c.pc 4 then effected m (performed (word_at m c.pc) c) else wrong
 
 -- the core of the world
 abbrev pub core : Core Cpu
 core = record { fresh = fresh; act = act_of; answered = answered }
 
 -- what the code hands back, and the registers that it leaves, as what the instruction does
-abbrev pub shown : Action → Cpu → Act Cpu
-shown A.Quiet c = quiet c
-shown (A.Store width a v) c = store a (stored width v) c
-shown (A.Call call) c = asks call
-shown A.Wrong c = wrong
+abbrev pub shown : Option Action → Cpu → Act Cpu
+shown None c = wrong
+shown (Some A.Quiet) c = quiet c
+shown (Some (A.Store width a v)) c = store a (stored width v) c
+shown (Some (A.Call call)) c = asks call
 
 -- a process that calls waits with the registers that it had
 abbrev pub Rests : Action → Cpu → Cpu → Type 0
 Rests A.Quiet c d = Unit {0}
 Rests (A.Store width a v) c d = Unit {0}
 Rests (A.Call call) c d = d ≡ c
-Rests A.Wrong c d = Unit {0}
 
 -- a store meets a memory of size bytes
 abbrev pub Meets : Action → ℕ → Type 0
 Meets A.Quiet size = Unit {0}
 Meets (A.Store width a v) size = (a % store_size width ≡ 0) × (a + store_size width ≤ size)
 Meets (A.Call call) size = Unit {0}
-Meets A.Wrong size = Unit {0}

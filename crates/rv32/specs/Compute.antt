@@ -1,5 +1,5 @@
 -- What the operations compute, and when the conditions hold, on words of 32 bits: numbers below 2 ^ 32. Assumes nothing: these are definitions.
-use Rattle.std.specs.Prelude.{ℕ, ◌+◌, ◌-◌, ◌*◌, ◌/◌, ◌%◌, ◌^◌, Bool, cond, not, ℤ, ◌==◌, bit_and, bit_or, bit_xor, int_lt, nat_lt}
+use Rattle.std.specs.Prelude.{ℕ, ◌+◌, ◌-◌, ◌*◌, ◌/◌, ◌%◌, ◌^◌, Bool, if◌then◌else◌, not, ℤ, ◌==◌, bit_and, bit_or, bit_xor, int_lt, nat_lt}
 use Rattle.std.specs.Int.Signed.{shr_z}
 use Rattle.instructions.specs.declared.instruction.Operation.{Operation}
 use Rattle.instructions.specs.declared.instruction.Operation.TheVariants.{Add, Sub, Sll, Slt, Sltu, Xor, Srl, Sra, Or, And}
@@ -16,8 +16,8 @@ abbrev pub computed : Operation → ℕ → ℕ → ℕ
 computed Add x y = (x + y) % 2 ^ 32
 computed Sub x y = (x + (2 ^ 32 - y)) % 2 ^ 32
 computed Sll x y = x * 2 ^ (y % 32) % 2 ^ 32
-computed Slt x y = cond (int_lt (signed x) (signed y)) 1 0
-computed Sltu x y = cond (nat_lt x y) 1 0
+computed Slt x y = if int_lt (signed x) (signed y) then 1 else 0
+computed Sltu x y = if nat_lt x y then 1 else 0
 computed Xor x y = bit_xor x y
 computed Srl x y = x / 2 ^ (y % 32)
 computed Sra x y = word_of (shr_z (signed x) (2 ^ (y % 32)))

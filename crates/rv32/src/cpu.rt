@@ -1,16 +1,16 @@
 use instructions::{LoadWidth, StoreWidth};
 use turns::vocabulary::Call;
 
-// The registers of a process. Register 0 is read as 0, whatever the array holds there.
-#[derive(Clone, Copy)]
+// The registers of a process. Register 0 is read as 0, whatever the array holds there. A register goes by a `u8` below 32, as in `Instruction`.
+#[derive(Clone, Copy, Debug, PartialEq, Eq)]
 pub struct Cpu {
     pub regs: [u32; 32],
     pub pc: u32,
 }
 
 // What is left to do of an instruction when the registers are done with: nothing; to read memory, and then to `finish` with the value for rd; to write
-// memory; to make a call, and then to `answer`; or it is wrong, and ends its process.
-#[derive(Clone, Copy)]
+// memory; or to make a call, and then to `answer`.
+#[derive(Clone, Copy, Debug, PartialEq, Eq)]
 pub enum Effect {
     Quiet,
     Load {
@@ -24,11 +24,10 @@ pub enum Effect {
         value: u32,
     },
     Call(Call),
-    Wrong,
 }
 
 // What an instruction does, seen from outside the core, when loads are done too. A store meets the memory.
-#[derive(Clone, Copy)]
+#[derive(Clone, Copy, Debug, PartialEq, Eq)]
 pub enum Action {
     Quiet,
     Store {
@@ -37,5 +36,4 @@ pub enum Action {
         value: u32,
     },
     Call(Call),
-    Wrong,
 }

@@ -1,15 +1,15 @@
 // Instructions carried out on the registers of a process.
-ghost use Rattle.std.specs.Prelude.{◌≡◌, ◌%◌, ◌<◌, if◌then◌else◌, Some, None, nat_lt};
+ghost use Rattle.std.specs.Prelude.{◌≡◌, ◌%◌, ◌<◌, if◌then◌else◌, Some, None, IfSome, nat_lt};
 ghost use Rattle.turns.specs.Numbers.{call_number};
 ghost use Rattle.instructions.specs.Decode.{Sound};
-ghost use Rattle.rv32.specs.Execute.{reg_of, with_reg, stepped, finished, jumped, call_of, call_in, executed, performed, fresh, answered, SoundEffect, Waits};
+ghost use Rattle.rv32.specs.Execute.{reg_of, with_reg, stepped, finished, jumped, call_of, call_in, executed, performed, fresh, answered, Does};
 
 use crate::compute::*;
 use crate::cpu::*;
 use instructions::{Instruction, decode};
 use turns::vocabulary::Call;
 
-// The call of a number and its arguments.
+// The call of a number and its arguments: the calling convention has numbers, and takes any of them, so that this is no TryFrom.
 pub fn call_of(number: u32, a: u32, b: u32, c: u32) -> Call
     ensures value { result ≡ call_of number a b c }
     ensures number { call_number result ≡ (if nat_lt number 12 then Some number else None) }
@@ -58,18 +58,11 @@ impl Cpu {
     }
 
     // Carries a word out. It goes through the decoded instruction, so that one decoder serves the machine, the assembler and listings. The registers are changed
-    // in place: none are kept aside for a wrong instruction, after which nobody looks at them.
-    pub fn execute(&mut self, word: u32) -> Effect
-        ensures value { result ≡ (performed word self.old).0 }
-        ensures after { self.new ≡ (performed word self.old).1 }
-        ensures sound { SoundEffect result }
-        ensures waits { Waits result self.old self.new }
-        ensures aligned { self.old.pc % 4 ≡ 0 → self.new.pc % 4 ≡ 0 }
+    // in place: none are kept aside for a wrong instruction, which has no effect, and after which nobody looks at them.
+    pub fn execute(&mut self, word: u32) -> Option<Effect>
+        ensures { Does (performed word self.old) result self.old self.new }
     {
-        match decode(word) {
-            Some(instruction) => self.obey(instruction),
-            None => Effect::Wrong,
-        }
+        self.obey(decode(word)?)
     }
 
     fn read(&self, r: u8) -> u32
@@ -94,21 +87,17 @@ impl Cpu {
         self.pc = self.pc.wrapping_add(4);
     }
 
-    fn jump(&mut self, rd: u8, target: u32) -> Effect
+    fn jump(&mut self, rd: u8, target: u32) -> Option<Effect>
         requires register { rd < 32 }
-        ensures value { result ≡ (jumped self.old rd target).0 }
-        ensures after { self.new ≡ (jumped self.old rd target).1 }
-        ensures sound { SoundEffect result }
-        ensures waits { Waits result self.old self.new }
-        ensures aligned { self.old.pc % 4 ≡ 0 → self.new.pc % 4 ≡ 0 }
+        ensures { Does (jumped self.old rd target) result self.old self.new }
     {
         if target % 4 != 0 {
-            return Effect::Wrong;
+            return None;
         }
         let next = self.pc.wrapping_add(4);
         self.write(rd, next);
         self.pc = target;
-        Effect::Quiet
+        Some(Effect::Quiet)
     }
 
     // The call that the registers hold.
@@ -118,13 +107,9 @@ impl Cpu {
         call_of(self.read(17), self.read(10), self.read(11), self.read(12))
     }
 
-    fn obey(&mut self, instruction: Instruction) -> Effect
+    fn obey(&mut self, instruction: Instruction) -> Option<Effect>
         requires sound { Sound instruction }
-        ensures value { result ≡ (executed instruction self.old).0 }
-        ensures after { self.new ≡ (executed instruction self.old).1 }
-        ensures sound { SoundEffect result }
-        ensures waits { Waits result self.old self.new }
-        ensures aligned { self.old.pc % 4 ≡ 0 → self.new.pc % 4 ≡ 0 }
+        ensures { Does (executed instruction self.old) result self.old self.new }
     {
         match instruction {
             Instruction::Lui(rd, imm) => self.finish(rd, imm),
@@ -145,17 +130,17 @@ impl Cpu {
             }
             Instruction::Load(width, rd, rs1, offset) => {
                 let address = self.read(rs1).wrapping_add_signed(offset);
-                return Effect::Load { width, rd, address };
+                return Some(Effect::Load { width, rd, address });
             }
             Instruction::Store(width, rs1, rs2, offset) => {
                 let address = self.read(rs1).wrapping_add_signed(offset);
                 let value = self.read(rs2);
                 self.step();
-                return Effect::Store {
+                return Some(Effect::Store {
                     width,
                     address,
                     value,
-                };
+                });
             }
             Instruction::OpImm(operation, rd, rs1, imm) => {
                 let value = compute(operation, self.read(rs1), imm.cast_unsigned());
@@ -166,8 +151,8 @@ impl Cpu {
                 self.finish(rd, value);
             }
             Instruction::Fence(..) => self.step(),
-            Instruction::Ecall => return Effect::Call(self.call()),
+            Instruction::Ecall => return Some(Effect::Call(self.call())),
         }
-        Effect::Quiet
+        Some(Effect::Quiet)
     }
 }

@@ -1,13 +1,13 @@
 // Instructions in a memory that is a row of bytes.
-ghost use Rattle.std.specs.Prelude.{◌≡◌, ◌+◌, ◌%◌, ◌<◌, ◌≤◌, true, length};
+ghost use Rattle.std.specs.Prelude.{◌≡◌, ◌+◌, ◌%◌, ◌<◌, ◌≤◌, true, false, MatchOption, IfSome, length};
 ghost use Rattle.octets.specs.Rows.{over};
 ghost use Rattle.rv32.specs.Act.{load_size, loaded, store_size, stored, meets, core, shown, Rests, Meets};
 
 use crate::cpu::*;
 use instructions::{LoadWidth, StoreWidth};
-use octets::{half, put_half, put_word, word};
+use octets::Number;
 
-// How many bytes are loaded.
+// How many bytes are loaded. (It and `store_size` are no twins to be one: the widths are enums with different members, and a trait would keep both matches.)
 pub fn load_size(width: LoadWidth) -> u32
     ensures value { result ≡ load_size width }
     ensures few { (0 < result) × (result ≤ 4) }
@@ -38,10 +38,10 @@ pub fn load(bytes: &[u8], width: LoadWidth, at: usize) -> u32
 {
     match width {
         LoadWidth::Byte => (bytes[at].cast_signed() as i32).cast_unsigned(),
-        LoadWidth::Half => (half(bytes, at).cast_signed() as i32).cast_unsigned(),
-        LoadWidth::Word => word(bytes, at),
+        LoadWidth::Half => (u16::read(bytes, at).cast_signed() as i32).cast_unsigned(),
+        LoadWidth::Word => u32::read(bytes, at),
         LoadWidth::ByteUnsigned => bytes[at] as u32,
-        LoadWidth::HalfUnsigned => half(bytes, at) as u32,
+        LoadWidth::HalfUnsigned => u16::read(bytes, at) as u32,
     }
 }
 
@@ -51,55 +51,52 @@ pub fn store(bytes: &mut [u8], width: StoreWidth, at: usize, value: u32)
     ensures { bytes.new ≡ over bytes.old at (stored width value) }
 {
     match width {
-        StoreWidth::Byte => bytes[at] = (value % 256) as u8,
-        StoreWidth::Half => put_half(bytes, at, (value % 65_536) as u16),
-        StoreWidth::Word => put_word(bytes, at, value),
+        StoreWidth::Byte => ((value % 256) as u8).write(bytes, at),
+        StoreWidth::Half => ((value % 65_536) as u16).write(bytes, at),
+        StoreWidth::Word => value.write(bytes, at),
     }
 }
 
-// Whether so many bytes at an address meet the memory.
-fn within(memory: &[u8], address: u32, size: u32) -> bool
+// Where so many bytes at an address lie, if they meet the memory.
+fn place(memory: &[u8], address: u32, size: u32) -> Option<usize>
     requires { (0 < size) × (size ≤ 4) }
-    ensures value { result ≡ meets (length memory.now) address size }
-    ensures inside { result ≡ true → (address % size ≡ 0) × (address + size ≤ length memory.now) }
+    ensures meets { MatchOption result (meets (length memory.now) address size ≡ false) (λ at. (meets (length memory.now) address size ≡ true) × (at ≡ address)) }
+    ensures inside { IfSome result (λ at. (address % size ≡ 0) × (at + size ≤ length memory.now)) }
 {
     let end = address as usize + size as usize;
-    address % size == 0 && end <= memory.len()
+    if address % size == 0 && end <= memory.len() {
+        Some(address as usize)
+    } else {
+        None
+    }
 }
 
-// The instruction at hand, but for the bytes of a store and the answer of a call. After a wrong one nobody looks at the registers again.
-pub fn act(cpu: &mut Cpu, memory: &[u8]) -> Action
+// The instruction at hand, but for the bytes of a store and the answer of a call; none if it is wrong, and then nobody looks at the registers again.
+pub fn act(cpu: &mut Cpu, memory: &[u8]) -> Option<Action>
     ensures value { shown result cpu.new ≡ core.act cpu.old memory.now }
-    ensures waits { Rests result cpu.old cpu.new }
-    ensures meets { Meets result (length memory.now) }
+    ensures waits { IfSome result (λ action. Rests action cpu.old cpu.new) }
+    ensures meets { IfSome result (λ action. Meets action (length memory.now)) }
 {
-    if !within(memory, cpu.pc, 4) {
-        return Action::Wrong;
-    }
-    match cpu.execute(word(memory, cpu.pc as usize)) {
-        Effect::Quiet => Action::Quiet,
+    let at = place(memory, cpu.pc, 4)?;
+    match cpu.execute(u32::read(memory, at))? {
+        Effect::Quiet => Some(Action::Quiet),
         Effect::Load { width, rd, address } => {
-            if !within(memory, address, load_size(width)) {
-                return Action::Wrong;
-            }
-            cpu.finish(rd, load(memory, width, address as usize));
-            Action::Quiet
+            let at = place(memory, address, load_size(width))?;
+            cpu.finish(rd, load(memory, width, at));
+            Some(Action::Quiet)
         }
         Effect::Store {
             width,
             address,
             value,
         } => {
-            if !within(memory, address, store_size(width)) {
-                return Action::Wrong;
-            }
-            Action::Store {
+            place(memory, address, store_size(width))?;
+            Some(Action::Store {
                 width,
                 address,
                 value,
-            }
+            })
         }
-        Effect::Call(call) => Action::Call(call),
-        Effect::Wrong => Action::Wrong,
+        Effect::Call(call) => Some(Action::Call(call)),
     }
 }

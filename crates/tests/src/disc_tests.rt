@@ -2,6 +2,7 @@
 ghost use Rattle.std.specs.Prelude.{◌≡◌, ◌<◌, ◌≤◌, length};
 
 use disc::{check, format, read};
+use octets::Number;
 use std::alloc::{AllocError, Global};
 use std::process::Abort;
 use std::test::Fail;
@@ -63,18 +64,18 @@ fn check_range(rt: &impl Abort, image: &mut [u8], at: usize, least: u32, most: u
     requires at_bound { at ≤ 40 }
     requires most_bound { most < 1000000000 }
 {
-    let size = octets::word(image, at);
+    let size = u32::read(image, at);
     if least > 0 {
-        octets::put_word(image, at, least - 1);
+        (least - 1).write(image, at);
         assert_eq!(rt; refusal(image, PLENTY), (3, at));
     }
-    octets::put_word(image, at, most + 1);
+    (most + 1).write(image, at);
     assert_eq!(rt; refusal(image, PLENTY), (3, at));
-    octets::put_word(image, at, most);
+    most.write(image, at);
     assert_ne!(rt; refusal(image, PLENTY).0, 3);
-    octets::put_word(image, at, least);
+    least.write(image, at);
     assert_ne!(rt; refusal(image, PLENTY).0, 3);
-    octets::put_word(image, at, size);
+    size.write(image, at);
 }
 
 #[test]
@@ -118,14 +119,14 @@ fn check_headers(rt: &impl Abort, image: &mut [u8])
     requires { length image.old ≡ 4096 }
 {
     assert_eq!(rt; refusal(&image[0..3_584], PLENTY), (4, 3_584));
-    octets::put_word(image, 2_048, 4_294_967_295);
+    4_294_967_295_u32.write(image, 2_048);
     assert_eq!(rt; refusal(image, PLENTY), (0, 0));
     image[512] = 255;
     assert_eq!(rt; refusal(image, PLENTY), (4, 2_048));
     assert_eq!(rt; refusal(&image[0..3_584], PLENTY), (4, 2_048));
     assert_eq!(rt; refusal(&image[0..2_048], PLENTY), (4, 2_048));
     image[512] = 254;
-    octets::put_word(image, 1_024, 2);
+    2_u32.write(image, 1_024);
     assert_eq!(rt; refusal(image, PLENTY), (4, 1_024));
 }
 

@@ -22,12 +22,16 @@ fn copies(rt: HostRuntime) -> Result<(), Fail> {
     let mut paging = Paging::set_up(sizes, frames);
     paging.begin(sizes, frames, 0);
     let mut cache = Cache::none();
-    assert!(rt; cache.store_word(&paging, frames, 0, 4092, 0x0403_0201));
-    assert!(rt; !cache.store_word(&paging, frames, 0, 4096, 1));
+    assert!(rt;
+        cache
+            .store(&paging, frames, 0, 4092, 0x0403_0201_u32)
+            .is_some()
+    );
+    assert!(rt; cache.store(&paging, frames, 0, 4096, 1_u32).is_none());
     paging.begin_copy(sizes, frames, 0, 1);
     let mut copy = Cache::none();
-    assert_eq!(rt; copy.load_byte(&paging, frames, 1, 4095), Some(4));
-    assert_eq!(rt; copy.load_byte(&paging, frames, 1, 0), Some(0));
-    assert_eq!(rt; copy.load_byte(&paging, frames, 1, 4096), None);
+    assert_eq!(rt; copy.load(&paging, frames, 1, 4095), Some(4_u8));
+    assert_eq!(rt; copy.load(&paging, frames, 1, 0), Some(0_u8));
+    assert_eq!(rt; copy.load::<u8>(&paging, frames, 1, 4096), None);
     Ok(())
 }

@@ -1,5 +1,5 @@
 // Queues and screens: a queue goes round its row, and screens grow in any order.
-use queues::{Queue, Screens};
+use queues::{Full, Queue, Screens};
 use std::test::Fail;
 
 #[test]
@@ -19,9 +19,9 @@ fn goes_round(rt: HostRuntime) {
 fn grow(rt: HostRuntime) -> Result<(), Fail> {
     let mut row = [0u8; 5];
     let mut screens = Screens::empty();
-    assert!(rt; screens.append(&mut row, 3, b"xy"));
-    assert!(rt; screens.append(&mut row, 0, b"abc"));
-    assert!(rt; !screens.append(&mut row, 15, b"z"));
+    assert!(rt; screens.append(&mut row, 3, b"xy").is_ok());
+    assert!(rt; screens.append(&mut row, 0, b"abc").is_ok());
+    assert!(rt; screens.append(&mut row, 15, b"z") == Err(Full));
     assert!(rt; screens.screen(&row, 0) == b"abc".as_slice());
     assert!(rt; screens.screen(&row, 3) == b"xy".as_slice());
     Ok(())

@@ -1,7 +1,7 @@
 -- Corners, computed. Assumes nothing.
 use Rattle.std.proofs.Common.{refl}
 use Rattle.octets.specs.Rows.{pick, over, lowest_from}
-use Rattle.turns.specs.World.{is_free, is_running, is_left, left_with, is_nothing, is_write_end, is_read_end, is_none, leads_to, closed, with_processes, with_process, with_open, with_pipe, with_file, with_keys, with_shown, with_turn}
+use Rattle.turns.specs.World.{is_free, is_running, is_left, left_with, is_nothing, is_write_end, is_read_end, leads_to, closed, with_processes, with_process, with_open, with_pipe, with_file, with_keys, with_shown, with_turn}
 use Rattle.turns.specs.World.{with_parent, with_cpu, with_memory, with_handles, opened, end_behind, free_handle, second_handle, named, moved, without_parent, orphaned, loaded, nobody, process, runs_in, has_open, in_use, some_end, writers, readers}
 use Rattle.turns.specs.World.{free_process, free_open, second_open, free_pipe, is_child, left_child, handle_of, end_of, with_handle, into_memory, leaves, forks, waits, execs, opens, closes, copies, pipes_through, reads_from, reads_by, reads, writes_to, writes_by, writes, ends_at, ends, does}
 use Rattle.turns.specs.World.{passes, spends, goes_on, after_call, acts, instruction, event, run, begin, ticks}
@@ -9,7 +9,7 @@ use Rattle.turns.specs.Corners.{small, bare, first, calls, mine, last, left, orp
 
 -- to unfold this is to unfold all that the world computes with
 unfoldable pub computes : Unit {0}
-unfolding pick over lowest_from is_free is_running is_left left_with is_nothing is_write_end is_read_end is_none leads_to closed with_processes with_process with_open with_pipe with_file with_keys with_shown with_turn with_parent with_cpu with_memory with_handles opened end_behind free_handle second_handle named moved without_parent orphaned loaded nobody process runs_in has_open in_use some_end writers readers free_process free_open second_open free_pipe is_child left_child handle_of end_of with_handle into_memory leaves forks waits execs opens closes copies pipes_through reads_from reads_by reads writes_to writes_by writes ends_at ends does passes spends goes_on after_call acts instruction event run begin ticks
+unfolding pick over lowest_from is_free is_running is_left left_with is_nothing is_write_end is_read_end leads_to closed with_processes with_process with_open with_pipe with_file with_keys with_shown with_turn with_parent with_cpu with_memory with_handles opened end_behind free_handle second_handle named moved without_parent orphaned loaded nobody process runs_in has_open in_use some_end writers readers free_process free_open second_open free_pipe is_child left_child handle_of end_of with_handle into_memory leaves forks waits execs opens closes copies pipes_through reads_from reads_by reads writes_to writes_by writes ends_at ends does passes spends goes_on after_call acts instruction event run begin ticks
 computes = tt
 
 pub corners : Corners

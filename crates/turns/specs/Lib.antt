@@ -2,6 +2,7 @@ pub mod Core
 pub mod World
 pub mod Ranges
 pub mod Numbers
+pub mod Names
 pub mod Happens
 pub mod Theorems
 pub mod Promise

@@ -1,6 +1,6 @@
 -- The world: what programs that take turns see of a machine. Memory of their own, files, pipes, screens and each other; no frames, tables, blocks or caches.
 -- It is what is drawn on the blackboard. Assumes nothing: these are definitions.
-use Rattle.std.specs.Prelude.{ℕ, zero, suc, ◌+◌, ◌-◌, ◌*◌, ◌%◌, Bool, true, false, not, ◌&&◌, ◌||◌, List, [], ◌∷◌, ◌++◌, map, length, take, drop, replicate, Some, None, Option, ◌==◌, nat_le, nat_lt, slice_index_or, slice_set}
+use Rattle.std.specs.Prelude.{ℕ, zero, suc, ◌+◌, ◌-◌, ◌*◌, ◌%◌, Bool, true, false, not, ◌&&◌, ◌||◌, List, [], ◌∷◌, ◌++◌, map, length, take, drop, replicate, is_none, Some, None, Option, ◌==◌, nat_le, nat_lt, slice_index_or, slice_set}
 use Rattle.octets.specs.Rows.{pick, over, lowest, lowest_from, some}
 use Rattle.turns.specs.Core.{Core, Act, quiet, store, asks, wrong}
 use Rattle.turns.specs.declared.vocabulary.Sizes.{Sizes}
@@ -87,10 +87,6 @@ is_read_end j (File f) = false
 is_read_end j (WriteEnd i) = false
 is_read_end j (ReadEnd i) = i == j
 
-unfoldable pub is_none : Option ℕ → Bool
-is_none None = true
-is_none (Some k) = false
-
 -- a handle leads to the open thing k
 unfoldable pub leads_to : ℕ → Option ℕ → Bool
 leads_to k None = false
@@ -104,102 +100,40 @@ closed = record { end = Nothing; at = 0 }
 
 module _ {Cpu : Type 0} where
   unfoldable pub with_processes : World Cpu → List (Process Cpu) → World Cpu
-  with_processes w qs =
-      record { processes = qs; opens = w.opens; pipes = w.pipes; files = w.files; keys = w.keys; shown = w.shown; turn = w.turn; used = w.used }
+  with_processes w qs = record w { processes = qs }
 
   unfoldable pub with_process : World Cpu → ℕ → Process Cpu → World Cpu
-  with_process w p q =
-      record {
-        processes = slice_set w.processes p q;
-        opens = w.opens;
-        pipes = w.pipes;
-        files = w.files;
-        keys = w.keys;
-        shown = w.shown;
-        turn = w.turn;
-        used = w.used;
-      }
+  with_process w p q = record w { processes = slice_set w.processes p q }
 
   unfoldable pub with_open : World Cpu → ℕ → OpenThing → World Cpu
-  with_open w k o =
-      record {
-        processes = w.processes;
-        opens = slice_set w.opens k o;
-        pipes = w.pipes;
-        files = w.files;
-        keys = w.keys;
-        shown = w.shown;
-        turn = w.turn;
-        used = w.used;
-      }
+  with_open w k o = record w { opens = slice_set w.opens k o }
 
   unfoldable pub with_pipe : World Cpu → ℕ → List ℕ → World Cpu
-  with_pipe w j bs =
-      record {
-        processes = w.processes;
-        opens = w.opens;
-        pipes = slice_set w.pipes j bs;
-        files = w.files;
-        keys = w.keys;
-        shown = w.shown;
-        turn = w.turn;
-        used = w.used;
-      }
+  with_pipe w j bs = record w { pipes = slice_set w.pipes j bs }
 
   unfoldable pub with_file : World Cpu → ℕ → List ℕ → World Cpu
-  with_file w f bs =
-      record {
-        processes = w.processes;
-        opens = w.opens;
-        pipes = w.pipes;
-        files = slice_set w.files f bs;
-        keys = w.keys;
-        shown = w.shown;
-        turn = w.turn;
-        used = w.used;
-      }
+  with_file w f bs = record w { files = slice_set w.files f bs }
 
   unfoldable pub with_keys : World Cpu → ℕ → List ℕ → World Cpu
-  with_keys w t bs =
-      record {
-        processes = w.processes;
-        opens = w.opens;
-        pipes = w.pipes;
-        files = w.files;
-        keys = slice_set w.keys t bs;
-        shown = w.shown;
-        turn = w.turn;
-        used = w.used;
-      }
+  with_keys w t bs = record w { keys = slice_set w.keys t bs }
 
   unfoldable pub with_shown : World Cpu → ℕ → List ℕ → World Cpu
-  with_shown w t bs =
-      record {
-        processes = w.processes;
-        opens = w.opens;
-        pipes = w.pipes;
-        files = w.files;
-        keys = w.keys;
-        shown = slice_set w.shown t bs;
-        turn = w.turn;
-        used = w.used;
-      }
+  with_shown w t bs = record w { shown = slice_set w.shown t bs }
 
   unfoldable pub with_turn : World Cpu → ℕ → ℕ → World Cpu
-  with_turn w t u =
-      record { processes = w.processes; opens = w.opens; pipes = w.pipes; files = w.files; keys = w.keys; shown = w.shown; turn = t; used = u }
+  with_turn w t u = record w { turn = t; used = u }
 
   unfoldable pub with_parent : Process Cpu → ℕ → Process Cpu
-  with_parent q p = record { state = q.state; parent = p; cpu = q.cpu; memory = q.memory; handles = q.handles }
+  with_parent q p = record q { parent = p }
 
   unfoldable pub with_cpu : Process Cpu → Cpu → Process Cpu
-  with_cpu q c = record { state = q.state; parent = q.parent; cpu = c; memory = q.memory; handles = q.handles }
+  with_cpu q c = record q { cpu = c }
 
   unfoldable pub with_memory : Process Cpu → List ℕ → Process Cpu
-  with_memory q m = record { state = q.state; parent = q.parent; cpu = q.cpu; memory = m; handles = q.handles }
+  with_memory q m = record q { memory = m }
 
   unfoldable pub with_handles : Process Cpu → List (Option ℕ) → Process Cpu
-  with_handles q hs = record { state = q.state; parent = q.parent; cpu = q.cpu; memory = q.memory; handles = hs }
+  with_handles q hs = record q { handles = hs }
 
 -- LOOKING AT IT
 

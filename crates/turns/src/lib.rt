@@ -3,5 +3,6 @@
 
 pub mod numbers;
 pub mod promise;
+pub mod sizes;
 pub mod theorems;
 pub mod vocabulary;

@@ -6,7 +6,7 @@ use crate::vocabulary::{Call, Input, State};
 use std::fmt;
 
 impl Call {
-    // The number by which a program makes this call.
+    // The number by which a program makes this call: the calling convention has numbers. No From, since the number leaves the arguments out.
     pub fn number(&self) -> Option<u8>
         ensures { result ≡ call_number self.now }
     {
@@ -29,7 +29,7 @@ impl Call {
 }
 
 impl Input {
-    // The kind of an input in a row of bytes.
+    // The kind of an input in a row of bytes: the format has numbers. No From, as above.
     pub fn kind(&self) -> u8
         ensures { result ≡ input_kind self.now }
     {

@@ -2,7 +2,7 @@
 // nothing has to be translated between what is promised and what is carried out.
 
 // How many there are of each thing, and how large each is; all fixed on the disc.
-#[derive(Clone, Copy)]
+#[derive(Clone, Copy, Debug, PartialEq, Eq)]
 pub struct Sizes {
     // places for processes: 1 to 64
     pub processes: u32,
@@ -27,7 +27,7 @@ pub struct Sizes {
 }
 
 // What there is in a place for processes: nobody, a process that runs, or one that has left with a number and waits to be waited for.
-#[derive(Clone, Copy)]
+#[derive(Clone, Copy, Debug, PartialEq, Eq)]
 pub enum State {
     Free,
     Runs,
@@ -35,7 +35,7 @@ pub enum State {
 }
 
 // What an open thing is an end of: nothing, a screen with its keys, a file, or a pipe: its end to write into, its end to read from.
-#[derive(Clone, Copy)]
+#[derive(Clone, Copy, Debug, PartialEq, Eq)]
 pub enum End {
     Nothing,
     Screen(u8),
@@ -45,14 +45,14 @@ pub enum End {
 }
 
 // What handles lead to, and where in its file the next byte is read or written. Handles that were copied, also by a fork, share it.
-#[derive(Clone, Copy)]
+#[derive(Clone, Copy, Debug, PartialEq, Eq)]
 pub struct OpenThing {
     pub end: End,
     pub at: u32,
 }
 
 // What a program asks for. The numbers are handles, names of files and screens, addresses and counts, as the program gave them.
-#[derive(Clone, Copy)]
+#[derive(Clone, Copy, Debug, PartialEq, Eq)]
 pub enum Call {
     Leave(u32),
     Fork,
@@ -71,7 +71,7 @@ pub enum Call {
 }
 
 // What becomes of a call: it has an answer; it has none, since the process left or began anew; or it stays, to be made again in the next turn.
-#[derive(Clone, Copy)]
+#[derive(Clone, Copy, Debug, PartialEq, Eq)]
 pub enum Outcome {
     Answer(u32),
     Gone,
@@ -79,7 +79,7 @@ pub enum Outcome {
 }
 
 // What happens to the machine: one instruction's time passes, or a byte is typed at a screen.
-#[derive(Clone, Copy)]
+#[derive(Clone, Copy, Debug, PartialEq, Eq)]
 pub enum Event {
     Tick,
     Key(u8, u8),
@@ -87,7 +87,7 @@ pub enum Event {
 
 // What is fed to the machine: a number of ticks; a byte typed at a screen; or a power cut, after so many writes to the disc of the last event, with the byte that
 // fills the block of the next.
-#[derive(Clone, Copy)]
+#[derive(Clone, Copy, Debug, PartialEq, Eq)]
 pub enum Input {
     Ticks(u32),
     Key(u8, u8),

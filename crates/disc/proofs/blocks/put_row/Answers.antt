@@ -1,7 +1,7 @@
-use Rattle.std.proofs.Common.{arith}
-use Rattle.disc.specs.Blocks.{blocks}
-use Rattle.disc.specs.Blocks.{at}
-use Rattle.disc.proofs.Cuts.{cut_block}
+use Rattle.std.proofs.Common.{◌≡◌, List, ℕ, [], get_or, take, ap, ◌∙◌, arith}
+use Rattle.std.proofs.lemmas.List.{get_or-take, length-take}
+use Rattle.disc.specs.Blocks.{at, blocks}
+use Rattle.disc.proofs.Cuts.{chunks_blocks}
 use Rattle.disc.proofs.Rows.{puts_none, spent_none, puts_more, spent_more}
 use Rattle.disc.proofs.blocks.put_row.Goals as goal
 
@@ -10,7 +10,10 @@ loop-i-init c = (puts_none _ _ _ _ _, spent_none _ _ _ (blocks c.args.disc.now) 
 
 pub loop-i-preserved : goal.loop-i-preserved
 loop-i-preserved c =
-    let e = cut_block c.args.bytes.now c.loop-i.i (omega arith) in
+    let long = length-take c.args.n c.as_chunks.result.0.now in
+    let e : get_or (take c.args.n c.as_chunks.result.0.now) c.loop-i.i [] ≡ at (blocks c.args.bytes.now) c.loop-i.i =
+    get_or-take c.args.n c.as_chunks.result.0.now c.loop-i.i [] (omega arith)
+    ∙ ap (λ (d : List (List ℕ)). at d c.loop-i.i) (c.as_chunks.ensures.front ∙ chunks_blocks c.args.bytes.now) in
     let d = c.loop-i.invariant.0 in
     let p = c.loop-i.invariant.1 in
     let b = c.put.ensures.disc in

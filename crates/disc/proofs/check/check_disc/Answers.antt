@@ -3,9 +3,9 @@ use Rattle.std.proofs.lemmas.Result.{err_from_is_err_and}
 use Rattle.turns.specs.Ranges.{InRange}
 use Rattle.turns.specs.declared.vocabulary.Sizes.{Sizes}
 use Rattle.disc.specs.Blocks.{blocks}
-use Rattle.disc.specs.Layout.{plan_of, room}
-use Rattle.disc.specs.declared.layout.Plan.{Plan}
+use Rattle.disc.specs.Layout.{Shape, plan_of, room}
 use Rattle.disc.specs.Check.{first_out, first_wrong, size_refusal, block_refusal, disc_sizes, TakenBytes}
+use Rattle.disc.specs.Plans.{shape}
 use Rattle.disc.proofs.Verdicts.{refused_1, refused_2, refused_3, refused_4, passed_4, taken_if, none_if, never_refused}
 use Rattle.disc.proofs.check.check_disc.Goals as goal
 
@@ -33,18 +33,18 @@ pub returns-in_err-check_blocks : goal.returns-in_err-check_blocks
 returns-in_err-check_blocks c =
     let p = err_from_is_err_and c.from_residual-in_err-check_blocks.result c.from_residual-in_err-check_blocks.ensures.1 in
     let s = c.sizes_of-sizes.ensures in
-    let q : c.new.result ≡ plan_of (disc_sizes c.args.disc.now) = c.new.ensures.value ∙ ap plan_of s in
+    let q : shape c.new.result ≡ plan_of (disc_sizes c.args.disc.now) = c.new.ensures ∙ ap plan_of s in
     let e = refused_4 c.args.disc.now _ c.in_ok-check_length.ensures.value c.in_ok-check_name.ensures
     (ap (λ (z : Sizes). size_refusal (first_out z)) (sym s) ∙ c.in_ok-check_sizes.ensures.value)
-    (ap (λ (g : Plan). block_refusal (room g) (first_wrong g (blocks c.args.disc.now))) (sym q) ∙ c.in_err-check_blocks.ensures) in
+    (ap (λ (g : Shape). block_refusal (room g) (first_wrong g (blocks c.args.disc.now))) (sym q) ∙ c.in_err-check_blocks.ensures) in
     rw (p.1, p.2) (record { value = e; taken = tt; only = λ z t. absurd (never_refused _ _ z e t) })
 
 pub returns : goal.returns
 returns c =
     let s = c.sizes_of-sizes.ensures in
     let w = c.in_ok-check_length.ensures.whole in
-    let q : c.new.result ≡ plan_of (disc_sizes c.args.disc.now) = c.new.ensures.value ∙ ap plan_of s in
-    let b = ap (λ (g : Plan). block_refusal (room g) (first_wrong g (blocks c.args.disc.now))) (sym q) ∙ c.in_ok-check_blocks.ensures in
+    let q : shape c.new.result ≡ plan_of (disc_sizes c.args.disc.now) = c.new.ensures ∙ ap plan_of s in
+    let b = ap (λ (g : Shape). block_refusal (room g) (first_wrong g (blocks c.args.disc.now))) (sym q) ∙ c.in_ok-check_blocks.ensures in
     record {
       value = passed_4 c.args.disc.now c.in_ok-check_length.ensures.value c.in_ok-check_name.ensures
           (ap (λ (z : Sizes). size_refusal (first_out z)) (sym s) ∙ c.in_ok-check_sizes.ensures.value) b;

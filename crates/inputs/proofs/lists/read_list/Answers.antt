@@ -1,25 +1,24 @@
-use Rattle.std.proofs.Common.{refl, arith}
-use Rattle.inputs.proofs.Listing.{list_fails, list_more, list_ends, kept_unsaid, kept_more, finished_paths}
+use Rattle.std.proofs.Common.{◌≡◌, Err, sym, rules}
+use Rattle.inputs.proofs.Listing.{so_far_none, so_far_bad, so_far_more, so_far_all}
 use Rattle.inputs.proofs.lists.read_list.Goals as goal
 
-pub loop-i-init : goal.loop-i-init
-loop-i-init c = rw c.new-draft.ensures (refl, kept_unsaid _, omega arith, omega arith)
+pub loop-number-init : goal.loop-number-init
+loop-number-init c =
+    rw (c.into_iter-number-iterator.ensures.into_iter_gives, c.new-draft.ensures)
+    (tt, tt, sym c.of-number-items.ensures.number, so_far_none c.args.text.now _ c.of-number-items.ensures.text c.of-number-items.ensures.at c.of-number-items.ensures.number)
 
-pub returns-in-Err : goal.returns-in-Err
-returns-in-Err c =
-    record {
-      value = list_fails _ _ _ _ _ _ _ _ c.loop-i-test.true c.find-end.ensures.place c.find-to.ensures.place c.read_entry.ensures.value c.in-Err.ensures.value
-          c.loop-i.invariant.0;
-      paths = tt;
-    }
+pub returns-in_err-read : goal.returns-in_err-read
+returns-in_err-read c =
+    let q : c.from_residual.result ≡ Err c.in_err-read.field-0.0 = search rules in
+    rw q (record { value = so_far_bad _ _ _ _ _ _ c.read.new.self _ c.in-Some.ensures.steps c.in_err-read.ensures.value c.loop-number.invariant.3; paths = tt })
 
-pub loop-i-preserved : goal.loop-i-preserved
-loop-i-preserved c = (
-  list_more _ _ _ _ _ _ _ _ c.loop-i-test.true c.find-end.ensures.place c.find-to.ensures.place c.read_entry.ensures.value c.in-Ok.ensures.value c.loop-i.invariant.0,
-  kept_more _ c.find-to.result _ _ _ _ (omega arith) c.read_entry.ensures.within c.loop-i.invariant.1 c.in-Ok.ensures.value,
-  omega (arith, c.loop-i.invariant.2),
-  omega arith,
-)
+pub loop-number-preserved : goal.loop-number-preserved
+loop-number-preserved c =
+    let t = c.in-Some.ensures.steps in
+    (tt, tt, rw t.number (sym t.count), so_far_more _ _ _ _ _ _ _ t c.in_ok-read.ensures.value c.in_ok-read.ensures.within c.loop-number.invariant.3)
 
 pub returns : goal.returns
-returns c = rw c.finish.ensures (record { value = list_ends _ _ _ _ c.loop-i-test.false c.loop-i.invariant.0; paths = finished_paths _ _ _ c.loop-i.invariant.1 })
+returns c =
+    let i = c.loop-number.invariant in
+    let a = so_far_all _ _ c.loop-number.behind _ i.2 c.in-None.ensures.steps.0 i.3 in
+    rw c.finish.ensures (record { value = a.0; paths = a.1 })

@@ -1,23 +1,24 @@
-use Rattle.std.proofs.Common.{arith}
+use Rattle.std.proofs.Common.{◌≡◌, Ok, Err, sym, ap, ◌∙◌, rules}
 use Rattle.inputs.proofs.Scripting.{so_far_none, so_far_nothing, so_far_more, so_far_bad, so_far_all}
 use Rattle.inputs.proofs.scripts.read_script.Goals as goal
-use Rattle.inputs.proofs.scripts.read_script.Goals.{in-Nothing, in-Feed+in-Ok}
 
-pub loop-i-init : goal.loop-i-init
-loop-i-init c = (so_far_none _ _ c.new-out.ensures.items, omega arith, omega arith)
+pub loop-number-init : goal.loop-number-init
+loop-number-init c =
+    rw c.into_iter-number-iterator.ensures.into_iter_gives
+    (tt, tt, so_far_none c.args.text.now _ _ c.of-number-items.ensures.text c.of-number-items.ensures.at c.of-number-items.ensures.number c.new-out.ensures.items)
 
-pub returns-in-Bad : goal.returns-in-Bad
-returns-in-Bad c = so_far_bad _ _ _ _ _ _ c.loop-i-test.true c.find-end.ensures.place c.in-Bad.ensures c.loop-i.invariant.0
+pub returns-in_err-input : goal.returns-in_err-input
+returns-in_err-input c =
+    let q : c.from_residual.result ≡ Err c.in_err-input.field-0.0 = search rules in
+    rw q (so_far_bad _ _ _ _ _ _ _ c.in-Some.ensures.steps (sym c.read_numbered.ensures ∙ c.in_err-input.was) c.loop-number.invariant.2)
 
-pub loop-i-preserved : goal.loop-i-preserved
-loop-i-preserved c = (
-  elim c.match-read_line.branch [
-    | in-Nothing w ↦ rw w.out-is (so_far_nothing _ _ _ _ _ c.loop-i-test.true c.find-end.ensures.place w.in-Nothing.ensures c.loop-i.invariant.0)
-    | in-Feed+in-Ok w ↦ rw w.out-is (so_far_more _ _ _ _ _ _ _ c.loop-i-test.true c.find-end.ensures.place w.in-Feed.ensures w.in-Ok.ensures c.loop-i.invariant.0)
-  ],
-  omega (arith, c.loop-i.invariant.1),
-  omega arith,
-)
+pub loop-number-preserved-in_default : goal.loop-number-preserved-in_default
+loop-number-preserved-in_default c =
+    (tt, tt, so_far_nothing _ _ _ _ _ _ c.in-Some.ensures.steps (sym c.read_numbered.ensures ∙ c.in_ok-input.was ∙ ap (λ o. Ok o) c.in_default.is) c.loop-number.invariant.2)
+
+pub loop-number-preserved : goal.loop-number-preserved
+loop-number-preserved c =
+    (tt, tt, so_far_more _ _ _ _ _ _ _ _ c.in-Some.ensures.steps (sym c.read_numbered.ensures ∙ c.in_ok-input.was ∙ ap (λ o. Ok o) c.in-Some-2.is) c.in_ok-push_input.ensures c.loop-number.invariant.2)
 
 pub returns : goal.returns
-returns c = so_far_all _ _ _ _ c.loop-i-test.false c.loop-i.invariant.0
+returns c = so_far_all _ _ _ c.in-None.ensures.steps.0 c.loop-number.invariant.2

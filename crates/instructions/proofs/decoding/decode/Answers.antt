@@ -1,8 +1,10 @@
-use Rattle.std.proofs.Common.{◌^◌, ◌<◌, arith}
+use Rattle.std.proofs.Common.{◌≡◌, ◌^◌, ◌<◌, arith, rules}
+use Rattle.instructions.specs.Decode.{decode_of}
 use Rattle.instructions.proofs.Inverse.{encode_back}
 use Rattle.instructions.proofs.decoding.decode.Goals as goal
 
-pub returns : goal.returns
-returns c =
+pub returns-clause-back : goal.returns-clause-back
+returns-clause-back c =
     let h : c.args.word < 2 ^ 32 = omega arith in
-    record { value = c.by_opcode.ensures.value; sound = c.by_opcode.ensures.sound; back = rw c.by_opcode.ensures.value (encode_back c.args.word h) }
+    let e : c.ok.result ≡ decode_of c.args.word = search rules in
+    rw e (encode_back c.args.word h)

@@ -1,10 +1,7 @@
 use Rattle.std.proofs.Common.{◌/◌, ◌^◌, ◌<◌, arith}
 use lib.Bits.{and_mask}
-use Rattle.std.proofs.lemmas.Nat.{one_shl, pow_pos}
+use Rattle.std.proofs.lemmas.Nat.{one_shl}
 use Rattle.instructions.proofs.fields.bits.Goals as goal
-
-pub overflow_sub-result : goal.overflow_sub-result
-overflow_sub-result c = let a = c.args in let h : a.count < 32 = omega arith in omega (arith, one_shl a.count 32 h, pow_pos a.count)
 
 pub returns : goal.returns
 returns c = let a = c.args in let h : a.count < 32 = omega arith in

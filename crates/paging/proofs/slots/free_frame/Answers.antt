@@ -3,4 +3,4 @@ use Rattle.paging.proofs.slots.free_frame.Goals as goal
 
 pub returns : goal.returns
 unfolding free_at
-returns c = c.word.ensures
+returns c = c.read.ensures

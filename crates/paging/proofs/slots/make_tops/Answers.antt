@@ -7,8 +7,8 @@ use Rattle.paging.proofs.slots.make_tops.Goals as goal
 pub loop-n-preserved : goal.loop-n-preserved
 loop-n-preserved c =
     below_more _ _
-    (λ m h. ap (λ f. word_at f (m * 4)) c.put_word.ensures.row ∙ word_over_out _ _ _ (m * 4) (omega arith) (inl (omega arith)) ∙ c.loop-n.invariant m h)
-    c.put_word.ensures.read
+    (λ m h. ap (λ f. word_at f (m * 4)) c.write.ensures.row ∙ word_over_out _ _ _ (m * 4) (omega arith) (inl (omega arith)) ∙ c.loop-n.invariant m h)
+    c.write.ensures.read
 
 pub returns : goal.returns
 unfolding entry_of

@@ -4,4 +4,4 @@ use Rattle.paging.proofs.Slotting.{slotted}
 use Rattle.paging.proofs.slots.put_free.Goals as goal
 
 pub returns : goal.returns
-returns c = rw c.put_word.ensures.row (slotted c.args.frames.now (free c.args.k) c.args.n _ (omega arith) c.requires.tops c.requires.stack (omega arith) c.requires.long)
+returns c = rw c.write.ensures.row (slotted c.args.frames.now (free c.args.k) c.args.n _ (omega arith) c.requires.tops c.requires.stack (omega arith) c.requires.long)

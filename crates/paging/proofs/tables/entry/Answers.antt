@@ -4,4 +4,4 @@ use Rattle.paging.proofs.tables.entry.Goals as goal
 
 pub returns : goal.returns
 unfolding entry_of
-returns c = record { value = c.word.ensures; fits = search rules }
+returns c = record { value = c.read.ensures; fits = search rules }

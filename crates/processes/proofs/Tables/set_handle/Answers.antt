@@ -1,15 +1,11 @@
-use Rattle.std.proofs.Common.{refl, ◌∙◌, arith}
-use Rattle.std.proofs.lemmas.List.{length-set}
-use Rattle.processes.proofs.Changed.{sound_place, states_kept, tabled_handle}
+use Rattle.std.proofs.Common.{refl}
+use Rattle.turns.specs.World.{with_handle}
+use Rattle.processes.proofs.Changed.{follows_place, same_handle}
 use Rattle.processes.proofs.Tables.set_handle.Goals as goal
 
 pub returns : goal.returns
+unfolding with_handle
 returns c =
-    let s = c.requires.sound in
-    rw c.set_handle.ensures
-    (record {
-      sound = sound_place c.args.self.now c.args.p _ s (length-set _ _ _ ∙ s.handles c.args.p (omega (arith, s.sizes.processes.1, c.requires.runs.0)));
-      sizes = refl;
-      states = states_kept c.args.self.now c.args.p _ refl;
-      tabled = λ w h. tabled_handle c.args.self.now w c.args.p c.args.h c.args.to s h c.requires.runs c.requires.there;
-    })
+    rw c.set_handle.ensures.set
+    (follows_place c.args.self.now c.args.p _ _ (search) c.requires.runs.0
+    (λ w h. same_handle _ _ _ c.args.h c.args.to c.set_handle.ensures.within c.requires.runs.1 c.requires.there (h.each c.args.p)) refl)

@@ -1,7 +1,6 @@
-use Rattle.std.proofs.Common.{refl, arith}
+use Rattle.std.proofs.Common.{refl}
 use Rattle.queues.proofs.Rounds.{take_shorter}
 use Rattle.queues.proofs.Queue.take.Goals as goal
 
-pub returns : goal.returns
-returns c =
-    record { sound = record { start = omega arith; few = omega (arith, c.requires.sound.few) }; long = refl; queue = take_shorter c.args.self.now _ c.args.n c.requires.some refl refl }
+pub returns-clause-queue : goal.returns-clause-queue
+returns-clause-queue c = take_shorter c.args.self.now _ c.args.n c.requires.some refl refl
