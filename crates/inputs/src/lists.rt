@@ -34,7 +34,8 @@ pub struct Put {
     pub path: Span,
 }
 
-// What a list says: the sizes, and for each file where its contents come from; a file with none is empty.
+// What a list says: the sizes, and for each file where its contents come from; a file with none is empty. The lines lie beside the sizes, which are handed on whole.
+// Arrays, and no Vec: reading a list asks for no memory, so that it cannot fail for want of any.
 #[derive(Clone, Copy, Debug, PartialEq, Eq)]
 pub struct DiscList {
     pub sizes: Sizes,
@@ -70,7 +71,7 @@ pub(crate) enum Entry {
     Put(u32, Span),
 }
 
-// What the lines so far have said: the sizes, the line in which each was given if it was, and the files.
+// What the lines so far have said: the sizes, the line in which each was given if it was, and the files, as arrays, as above.
 #[derive(Clone, Copy)]
 pub(crate) struct Draft {
     sizes: Sizes,

@@ -10,7 +10,7 @@ use crate::numbers::number;
 use std::alloc::{AllocError, Global};
 use turns::vocabulary::Input;
 
-// What is wrong with a line of a script.
+// What is wrong with a line of a script. It is no part of `Reason`, of which it has three names: one of these has other words.
 #[derive(Clone, Copy, Debug, PartialEq, Eq)]
 pub enum Wrong {
     UnknownWord,
