@@ -71,7 +71,7 @@ pub(crate) enum Entry {
     Put(u32, Span),
 }
 
-// What the lines so far have said: the sizes, the line in which each was given if it was, and the files, as arrays, as above.
+// What the lines so far have said: the sizes, the line in which each was given if it was, and the files, as arrays, as above. Nobody compares two.
 #[derive(Clone, Copy)]
 pub(crate) struct Draft {
     sizes: Sizes,

@@ -119,7 +119,7 @@ fn read_numbered(number: usize, line: Line) -> Result<Option<Input>, ScriptError
     read_line(line).map_err(|wrong| ScriptError::Line(number, wrong))
 }
 
-// The bytes of an input are put behind others.
+// The bytes of an input are put behind others: its kind, which is a number of the format, and its numbers.
 fn push_input(out: &mut Vec<u8>, input: Input) -> Result<(), AllocError>
     ensures { OnOk result (out.new.items ≡ out.old.items ++ input_bytes input) }
 {

@@ -68,6 +68,7 @@ fn check_range(rt: &HostRuntime, list: &str, found: &DiscList) -> Result<(), Tol
     ))
 }
 
+// The handle, the list's name and a line go through the functions below one by one: what is wrong is told where it is found, in its own words.
 // A path that is relative to the folder of a list.
 fn beside(rt: &HostRuntime, list: &str, path: &str) -> Result<PathBuf, Told> {
     let whole = match Path::new(list).parent() {

@@ -19,7 +19,7 @@ mod starting;
 use rv32::Cpu;
 use turns::vocabulary::{OpenThing, Sizes, State};
 
-// A place for a process, and who is in it. A handle leads to an open thing, by its number, or to none.
+// A place for a process, and who is in it. A handle leads to an open thing, by its number, or to none; an array, since a board has no heap.
 #[derive(Clone, Copy, Debug, PartialEq, Eq)]
 pub struct Process {
     pub state: State,
