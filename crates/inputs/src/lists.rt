@@ -121,7 +121,7 @@ fn read_entry(line: Line) -> Result<Option<Entry>, Reason>
 }
 
 impl Draft {
-    // Nothing has been said yet.
+    // Nothing has been said yet. The zeros mean nothing, and `Sizes` has no Default, since a size has none.
     fn new() -> Draft
         ensures { result ≡ unsaid }
     {
