@@ -214,7 +214,7 @@ impl Draft {
         (0..64).find(|&f| self.puts[f].is_some() && f >= self.sizes.files as usize)
     }
 
-    // The lines in which the sizes were given.
+    // The lines in which the sizes were given; 0 stands for none, which is not so behind `missing`, here and for a file in `finish`.
     fn given_in(&self) -> [usize; 10]
         ensures { result ≡ map (λ line. unwrap_or line 0) self.now.lines }
     {

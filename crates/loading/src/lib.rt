@@ -27,6 +27,7 @@ pub struct Loaded {
     pub files: Vec<Vec<u8>>,
 }
 
+// Private, though mkdisc and run have the same: a new public function owes a promise, and no clause can say what is printed.
 fn tell<M: Display + Drop>(rt: &HostRuntime, message: M) -> Told {
     let _ = eprintln!(rt; "{message}");
     Told
@@ -53,6 +54,7 @@ fn range_of(name: SizeName) -> &'static str {
     }
 }
 
+// The handle, the list's name and a line go through these functions one by one: what is wrong is told where it is found, in its own words.
 // The sizes of a list are in range, or the first that is not is told.
 fn check_range(rt: &HostRuntime, list: &str, found: &DiscList) -> Result<(), Told>
     ensures { OnOk result (InRange found.now.sizes) }
@@ -68,7 +70,6 @@ fn check_range(rt: &HostRuntime, list: &str, found: &DiscList) -> Result<(), Tol
     ))
 }
 
-// The handle, the list's name and a line go through the functions below one by one: what is wrong is told where it is found, in its own words.
 // A path that is relative to the folder of a list.
 fn beside(rt: &HostRuntime, list: &str, path: &str) -> Result<PathBuf, Told> {
     let whole = match Path::new(list).parent() {

@@ -23,12 +23,14 @@ use turns::vocabulary::{OpenThing, Sizes, State};
 #[derive(Clone, Copy, Debug, PartialEq, Eq)]
 pub struct Process {
     pub state: State,
+    // 0 also where it is nobody's child, as in the world
     pub parent: u8,
     pub cpu: Cpu,
     pub handles: [Option<u8>; 16],
 }
 
 // All places and all open things; `sizes` says how many of them there are. `turn`: whose turn it is; `used`: how many of its instructions are over.
+// That a number is a place, or that a process runs there, is a clause (`RunsAt`): no type of places, since some calls take any number.
 // The arrays are as long as they can be at most, since a board has fixed memory and no heap; places and open things go by their numbers, as in the world.
 #[derive(Clone, Copy, Debug, PartialEq, Eq)]
 pub struct Tables {
