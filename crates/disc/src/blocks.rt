@@ -43,7 +43,7 @@ pub fn put(disc: &mut [u8], power: &mut Power, torn: &[u8], block: usize, bytes:
     }
 }
 
-// The disc, the power and the torn block are three parameters here and in `put`: a struct that lends them would hold two `&mut` for two functions, which is no plainer.
+// The disc, the power and the torn block are three parameters here and in `put`: a struct that lends them would hold two `&mut` for two functions, no plainer.
 // `n` stands beside `bytes`, which may be longer: without it callers would be asked for just so many bytes.
 // The first n blocks of `bytes` are written into the blocks from `first` on, one after the other, as far as the power allows.
 pub fn put_row(

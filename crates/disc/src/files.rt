@@ -1,4 +1,4 @@
-// The files of a disc by a header, which may be the disc's own or one that is kept beside it.
+// The files of a disc by a header, which may be the disc's own or one that is kept beside it. No equality: nobody compares two.
 ghost use Rattle.std.specs.Prelude.{◌≡◌, ◌*◌, ◌≤◌, length};
 ghost use Rattle.disc.specs.Layout.{room};
 ghost use Rattle.disc.specs.Plans.{shape};

@@ -1,4 +1,5 @@
-// What the files of a disc hold. The disc and its sizes are two parameters, and no value with the disc lent in it: a board's disc is written between two calls.
+// What the files of a disc hold. A file goes by its number, below the number of files on this disc: a clause, since it hangs on the sizes. The disc and its
+// sizes are two parameters, and no value with the disc lent in it: a board's disc is written between two calls.
 ghost use Rattle.std.specs.Prelude.{◌≡◌, ◌+◌, ◌<◌, ◌≤◌, true, false, [], map, length, take, drop, vec_items, slice_index_or};
 ghost use Rattle.disc.specs.Blocks.{blocks};
 ghost use Rattle.disc.specs.Layout.{plan_of, files_on};

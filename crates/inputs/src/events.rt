@@ -1,4 +1,4 @@
-// Rows of events as bytes: one input after the other, and where such a row is refused.
+// Rows of events as bytes: one input after the other, and where such a row is refused. A row and a place in it are two parameters: places are what is answered.
 ghost use Rattle.std.specs.Prelude.{◌≡◌, ◌+◌, ◌^◌, ◌<◌, ◌≤◌, false, length, None};
 ghost use Rattle.inputs.specs.Events.{after, input_at, broken, peeked, length_of, ticks_of, refusal_of, WrittenOut};
 
@@ -69,7 +69,7 @@ pub fn refused(events: &[u8]) -> Option<usize>
 {
     let mut i = 0;
     let mut total: u64 = 0;
-    // `i` is the answer, and goes on by the length of the input that was read there: neither a range nor a chain counts so.
+    // `i` is the answer, and goes on by the length of the input that was read there: an iterator over places and inputs would be a type for this one loop.
     while i < events.len() {
         let Some(input) = peek(events, i) else {
             return Some(i);

@@ -1,4 +1,4 @@
-// A text line by line, and a line word by word.
+// A text line by line, and a line word by word. No equality: nobody compares lines.
 ghost use Rattle.std.specs.Prelude.{◌≡◌, ◌+◌, ◌≤◌, length};
 ghost use Rattle.inputs.specs.Texts.{is_blank, at_end};
 
@@ -41,7 +41,7 @@ impl<'a> Line<'a> {
         (self.at..self.end).find(|&i| test(self.text[i]))
     }
 
-    // The next word; behind the last it has no bytes, and stands at the line's end.
+    // The next word; behind the last it has no bytes, and stands at the line's end. No Option: where the line ends is the answer too.
     pub(crate) fn word(&self) -> Span
         ensures place { result ≡ span_at self.now.text.now self.now.at self.now.end }
         ensures behind { self.now.at ≤ result.from }
@@ -94,7 +94,7 @@ impl<'a> Line<'a> {
     }
 }
 
-// The lines of a text from a place on, each with its number.
+// The lines of a text from a place on, each with its number, which goes with the place: whoever has read on wants the number behind the last line too.
 #[derive(Clone, Copy)]
 pub(crate) struct Lines<'a> {
     pub(crate) text: &'a [u8],

@@ -34,7 +34,8 @@ pub struct Put {
     pub path: Span,
 }
 
-// What a list says: the sizes, and for each file where its contents come from; a file with none is empty.
+// What a list says: the sizes, and for each file where its contents come from; a file with none is empty. The lines lie beside the sizes, which are handed on whole.
+// Arrays, and no Vec: reading a list asks for no memory, so that it cannot fail for want of any.
 #[derive(Clone, Copy, Debug, PartialEq, Eq)]
 pub struct DiscList {
     pub sizes: Sizes,
@@ -70,7 +71,7 @@ pub(crate) enum Entry {
     Put(u32, Span),
 }
 
-// What the lines so far have said: the sizes, the line in which each was given if it was, and the files.
+// What the lines so far have said: the sizes, the line in which each was given if it was, and the files, as arrays, as above. Nobody compares two.
 #[derive(Clone, Copy)]
 pub(crate) struct Draft {
     sizes: Sizes,
@@ -120,7 +121,7 @@ fn read_entry(line: Line) -> Result<Option<Entry>, Reason>
 }
 
 impl Draft {
-    // Nothing has been said yet.
+    // Nothing has been said yet. The zeros mean nothing, and `Sizes` has no Default, since a size has none.
     fn new() -> Draft
         ensures { result ≡ unsaid }
     {
@@ -213,7 +214,7 @@ impl Draft {
         (0..64).find(|&f| self.puts[f].is_some() && f >= self.sizes.files as usize)
     }
 
-    // The lines in which the sizes were given.
+    // The lines in which the sizes were given; 0 stands for none, which is not so behind `missing`, here and for a file in `finish`.
     fn given_in(&self) -> [usize; 10]
         ensures { result ≡ map (λ line. unwrap_or line 0) self.now.lines }
     {

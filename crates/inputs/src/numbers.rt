@@ -10,7 +10,7 @@ fn with_digit(n: u32, b: u8) -> Option<u32>
     n.checked_mul(10)?.checked_add(digit)
 }
 
-// The number that a word writes in decimal digits.
+// The number that a word writes in decimal digits. No `parse`, which takes a `+` too.
 pub(crate) fn number(word: &[u8]) -> Option<u32>
     ensures { result ≡ number_of word.now }
 {

@@ -10,7 +10,7 @@ use crate::numbers::number;
 use std::alloc::{AllocError, Global};
 use turns::vocabulary::Input;
 
-// What is wrong with a line of a script.
+// What is wrong with a line of a script. It is no part of `Reason`, of which it has three names: one of these has other words.
 #[derive(Clone, Copy, Debug, PartialEq, Eq)]
 pub enum Wrong {
     UnknownWord,
@@ -119,7 +119,7 @@ fn read_numbered(number: usize, line: Line) -> Result<Option<Input>, ScriptError
     read_line(line).map_err(|wrong| ScriptError::Line(number, wrong))
 }
 
-// The bytes of an input are put behind others.
+// The bytes of an input are put behind others: its kind, which is a number of the format, and its numbers.
 fn push_input(out: &mut Vec<u8>, input: Input) -> Result<(), AllocError>
     ensures { OnOk result (out.new.items ≡ out.old.items ++ input_bytes input) }
 {

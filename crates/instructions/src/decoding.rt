@@ -20,7 +20,7 @@ fn op_imm(word: u32) -> Result<Instruction, Illegal>
     Ok(Instruction::OpImm(operation, rd(word), rs1(word), imm))
 }
 
-// The match on the opcode, by the numbers of the specification: an enum of them would only be matched a second time.
+// The match on the opcode, by the numbers of the specification: a form that this repository is to show, and an enum would be matched a second time.
 fn by_opcode(word: u32) -> Result<Instruction, Illegal>
     ensures value { result_ok result ≡ decode_of word }
     ensures sound { IfOk result Sound }

@@ -127,7 +127,7 @@ fn place_orderings(fm: u8, pred: u8, succ: u8) -> u32
     join(join(fm as u32, pred as u32, 4), succ as u32, 4) << 20
 }
 
-// The fields of a word don't overlap, so the immediate and the others are added.
+// The fields of a word don't overlap, so the immediate and the others are added. The opcodes are the numbers of the specification, as in decoding.
 fn word_of(instruction: Instruction) -> u32
     requires sound { Sound instruction }
     ensures { result ≡ encoded instruction }

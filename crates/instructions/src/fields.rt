@@ -1,4 +1,4 @@
-// The fields of an instruction word, by shifts and masks.
+// The fields of an instruction word, by shifts and masks: each by its name in the specification, with its place and its length.
 ghost use Rattle.std.specs.Prelude.{◌≡◌, ◌+◌, ◌-◌, ◌*◌, ◌/◌, ◌%◌, ◌^◌, ◌<◌, ◌≤◌};
 ghost use Rattle.instructions.specs.Fields.{opcode_of, rd_of, funct3_of, rs1_of, rs2_of, funct7_of, fm_of, pred_of, succ_of};
 ghost use Rattle.instructions.specs.Fields.{upper_of, signed_of, bits_s, bits_b, bits_j, imm_i, imm_s, imm_b, imm_j};

@@ -1,4 +1,4 @@
-// Instructions as they are written in a listing.
+// Instructions as they are written in a listing. The inner types derive no equality: nobody compares them.
 ghost use Rattle.std.specs.Prelude.{◌≡◌, Some, codes, map, slice_index_or};
 ghost use Rattle.instructions.specs.Listing.{name_of, operation_name, immediate_name, condition_name, load_name, store_name, order_name, written};
 

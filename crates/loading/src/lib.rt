@@ -27,6 +27,7 @@ pub struct Loaded {
     pub files: Vec<Vec<u8>>,
 }
 
+// Private, though mkdisc and run have the same: a new public function owes a promise, and no clause can say what is printed.
 fn tell<M: Display + Drop>(rt: &HostRuntime, message: M) -> Told {
     let _ = eprintln!(rt; "{message}");
     Told
@@ -53,6 +54,7 @@ fn range_of(name: SizeName) -> &'static str {
     }
 }
 
+// The handle, the list's name and a line go through these functions one by one: what is wrong is told where it is found, in its own words.
 // The sizes of a list are in range, or the first that is not is told.
 fn check_range(rt: &HostRuntime, list: &str, found: &DiscList) -> Result<(), Told>
     ensures { OnOk result (InRange found.now.sizes) }

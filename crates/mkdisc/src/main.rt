@@ -18,7 +18,7 @@ use turns::vocabulary::Sizes;
 
 const USAGE: &str = "usage: mkdisc LIST IMAGE | mkdisc read IMAGE FOLDER";
 
-// As in loading, where it is private too: a public function owes a promise, and no clause can say what is printed.
+// As in loading, where it is private too: a new public function owes a promise, and no clause can say what is printed.
 fn tell<M: Display + Drop>(rt: &HostRuntime, message: M) -> Told {
     let _ = eprintln!(rt; "{message}");
     Told
@@ -71,7 +71,7 @@ fn write_in(rt: &HostRuntime, folder: &str, name: &str, bytes: &[u8]) -> Result<
     write(rt, path.as_path().as_str(), bytes)
 }
 
-// The lines of a list that give the sizes.
+// The lines of a list that give the sizes. One text, and no loop over the names, since a text that grows may fail at each line.
 fn size_lines(rt: &HostRuntime, z: Sizes) -> Result<String, Told> {
     let text = format!(in rt.alloc();
         "processes {}\nopens {}\npipes {}\nhandles {}\nmemory {}\npipe {}\nfile {}\nfiles {}\nscreens {}\nturn {}\n",

@@ -6,7 +6,7 @@ ghost use Rattle.octets.specs.Words.{byte_from, half_from, word_from, byte_bytes
 ghost use Rattle.octets.specs.Kinds.{byte_laws, half_laws, word_laws};
 ghost use Rattle.octets.specs.Rows.{over};
 
-// A number that stands in a row of bytes.
+// A number that stands in a row of bytes. It is read and written byte by byte, so that each line says which byte stands where.
 pub trait Number: Copy {
     // how many bytes it has
     ghost size: { ℕ };

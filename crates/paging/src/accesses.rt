@@ -9,6 +9,7 @@ use crate::tables::frame;
 use crate::{Cache, Paging};
 use octets::Number;
 
+// That a cache remembers rightly is a clause and no ghost field: it speaks of the frames, which are lent at each call.
 impl Cache {
     // Nothing is remembered: this holds of every process, also of one whose tables were written.
     pub fn none() -> Cache

@@ -19,14 +19,12 @@ pub(crate) fn zero_frame(frames: &mut [u8], n: usize)
     clear(&mut frames[n * 4096..n * 4096 + 4096]);
 }
 
-// Frame `from` is copied into frame `to`, through a buffer, since both are parts of one slice.
+// Frame `from` is copied into frame `to`.
 pub(crate) fn copy_frame(frames: &mut [u8], from: usize, to: usize)
     requires small { (from < 2 ^ 32) × (to < 2 ^ 32) }
     requires within { (from * 4096 + 4096 ≤ length frames.old) × (to * 4096 + 4096 ≤ length frames.old) }
     ensures here { (k : ℕ) → k < 4096 → slice_index frames.new (to * 4096 + k) ≡ slice_index frames.old (from * 4096 + k) }
     ensures rest { ElseKept (to * 4096) (to * 4096 + 4096) frames.old frames.new }
 {
-    let mut page = [0u8; 4096];
-    page.copy_from_slice(&frames[from * 4096..from * 4096 + 4096]);
-    frames[to * 4096..to * 4096 + 4096].copy_from_slice(&page);
+    frames.copy_within(from * 4096..from * 4096 + 4096, to * 4096);
 }

@@ -20,11 +20,12 @@ mod tables;
 pub struct Paging {
     // how many frames are free: the height of the stack that holds their numbers
     pub(crate) free: u32,
-    // how many pages each process has
+    // how many pages each process has: an array, since a board has fixed memory and no heap
     pub(crate) pages: [u32; 64],
 }
 
-// The page of a process that was used last, and where its frame begins, so that most accesses walk no table.
+// The page of a process that was used last, and where its frame begins, so that most accesses walk no table. No Option: `none` promises a page behind all, and
+// a hit is one comparison.
 #[derive(Clone, Copy, Debug, PartialEq, Eq)]
 pub struct Cache {
     pub(crate) page: u32,

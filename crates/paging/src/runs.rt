@@ -36,7 +36,7 @@ impl Paging {
         &frames[at..end]
     }
 
-    // Copies `n` bytes of process `p`, from address `a` on, into `out`.
+    // Copies `n` bytes of process `p`, from address `a` on, into `out`, which may be longer: without `n` callers would be asked for just so many bytes.
     pub fn load_bytes(&self, frames: &[u8], p: usize, a: usize, n: usize, out: &mut [u8])
         requires sound { Sound self.now frames.now }
         requires process { p < 64 }
@@ -45,7 +45,7 @@ impl Paging {
         ensures bytes { (k : ℕ) → k < n → slice_index out.new k ≡ byte_of frames.now p (a + k) }
         ensures rest { (k : ℕ) → n ≤ k → slice_index out.new k ≡ slice_index out.old k }
     {
-        // A step is a run, as long as a page allows: no range and no chunks of std go so.
+        // A step is a run, as long as a page allows: no range and no chunks of std go so, and an iterator over runs would be a type for this one loop.
         let mut done = 0;
         while done < n {
             let run = self.run(frames, p, a + done, n - done);

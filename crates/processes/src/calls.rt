@@ -8,7 +8,8 @@ use crate::Tables;
 use crate::reading::end_named;
 use turns::vocabulary::{End, OpenThing, Outcome};
 
-// The answer of a call that is turned down: the number that the program finds in its register.
+// The answer of a call that is turned down: the number that the program finds in its register. Each call says itself where it is turned down: with `?` it would
+// be two functions, one of which only answers so.
 const NO: u32 = 4_294_967_295;
 
 #[tactic(auto, using(crate::proofs::Called::calls), unfolding(turns::specs::World::is_nothing))]

@@ -19,16 +19,18 @@ mod starting;
 use rv32::Cpu;
 use turns::vocabulary::{OpenThing, Sizes, State};
 
-// A place for a process, and who is in it. A handle leads to an open thing, by its number, or to none.
+// A place for a process, and who is in it. A handle leads to an open thing, by its number, or to none; an array, since a board has no heap.
 #[derive(Clone, Copy, Debug, PartialEq, Eq)]
 pub struct Process {
     pub state: State,
+    // 0 also where it is nobody's child, as in the world
     pub parent: u8,
     pub cpu: Cpu,
     pub handles: [Option<u8>; 16],
 }
 
 // All places and all open things; `sizes` says how many of them there are. `turn`: whose turn it is; `used`: how many of its instructions are over.
+// That a number is a place, or that a process runs there, is a clause (`RunsAt`): no type of places, since some calls take any number.
 // The arrays are as long as they can be at most, since a board has fixed memory and no heap; places and open things go by their numbers, as in the world.
 #[derive(Clone, Copy, Debug, PartialEq, Eq)]
 pub struct Tables {

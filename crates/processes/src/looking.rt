@@ -146,7 +146,7 @@ impl Tables {
         (0..self.sizes.processes as usize).find(|&i| self.is_left_child(p, i))
     }
 
-    // The number with which the process in place `i` has left.
+    // The number with which the process in place `i` has left. Apart from `left_child`, whose answer is a place alone, as the world's is.
     pub(crate) fn left_number(&self, i: usize) -> u8
         requires there { i < 64 }
         requires left { is_left (place self.now i).state ≡ true }

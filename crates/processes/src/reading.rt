@@ -18,7 +18,7 @@ impl Tables {
         self.processes[p].handle(h)
     }
 
-    // Whether handle `h` of process `p`, which runs, leads to an open thing.
+    // Whether handle `h` of process `p`, which runs, leads to an open thing. A bool: close needs no more, and copy hands the handle on as it is.
     #[tactic(auto, using(crate::proofs::Called::past_none), unfolding(turns::specs::World::handle_of))]
     pub(crate) fn has_handle(&self, p: usize, h: usize) -> bool
         requires runs { RunsAt self.now p }
@@ -56,7 +56,7 @@ impl Tables {
     }
 }
 
-// What a name stands for: a file, or behind the files a screen.
+// What a name stands for: a file, or behind the files a screen. Nothing and no Option, so that it is one equation with the world's `named`.
 #[tactic(auto, unfolding(octets::specs::Rows::pick, turns::specs::World::named))]
 pub(crate) fn end_named(sizes: Sizes, name: u32) -> End
     requires files { sizes.files ≤ 64 }

@@ -8,7 +8,7 @@ mod rings;
 mod shown;
 
 // A queue of bytes: a ring in a row of 4,096 bytes. Row `t` lies at byte 4,096 * t of what is lent for all queues of a kind.
-// No VecDeque, and no field for the row: the board's memory is fixed, and lent at each call.
+// No VecDeque, and no field for the row: the board's memory is fixed, and lent at each call. So no equality either: equal fields are not equal bytes that wait.
 #[derive(Clone, Copy, Debug)]
 pub struct Queue {
     // where in its row the front is
@@ -20,7 +20,8 @@ pub struct Queue {
 }
 
 // What up to 16 screens show, packed into one lent row: screen after screen, with no byte between them.
-// No Vec for each screen, and no field for the row: the board's memory is fixed, and lent at each call. So it is a clause that they end within it.
+// No Vec for each screen, and no field for the row: the board's memory is fixed, and lent at each call. So it is a clause that they end within it, and there is
+// no equality, as above.
 #[derive(Clone, Copy, Debug)]
 pub struct Screens {
     // where each screen begins, and last where all end

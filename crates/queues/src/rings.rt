@@ -83,7 +83,8 @@ impl Queue {
         self.length -= n;
     }
 
-    // The first `n` bytes, or all if fewer wait, are taken and put into `out`; how many those are.
+    // The first `n` bytes, or all if fewer wait, are taken and put into `out`, which may be longer than `n`; how many those are.
+    // Without `n` callers would be asked for just so many bytes.
     pub fn take_into(&mut self, rows: &[u8], t: usize, n: usize, out: &mut [u8]) -> usize
         requires row { t * 4096 + 4096 ≤ length rows.now }
         requires room { n ≤ length out.old }

@@ -13,7 +13,7 @@ const USAGE: &str = "usage: run IMAGE EVENTS [FRAMES [BYTES]]";
 // So many frames always do: 64 processes of 256 pages each, and 80 for the tables.
 const MOST_FRAMES: u32 = 16_464;
 
-// As in loading, where it is private too: a public function owes a promise, and no clause can say what is printed.
+// As in loading, where it is private too: a new public function owes a promise, and no clause can say what is printed.
 fn tell<M: Display + Drop>(rt: &HostRuntime, message: M) -> Told {
     let _ = eprintln!(rt; "{message}");
     Told

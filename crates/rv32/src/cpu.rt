@@ -2,6 +2,7 @@ use instructions::{LoadWidth, StoreWidth};
 use turns::vocabulary::Call;
 
 // The registers of a process. Register 0 is read as 0, whatever the array holds there. A register goes by a `u8` below 32, as in `Instruction`.
+// An array, since there are 32 of them.
 #[derive(Clone, Copy, Debug, PartialEq, Eq)]
 pub struct Cpu {
     pub regs: [u32; 32],

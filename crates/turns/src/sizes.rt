@@ -42,7 +42,7 @@ impl SizeName {
         self as usize
     }
 
-    // The size at a place of that order; behind the last it is the last.
+    // The size at a place of that order; behind the last it is the last, so that it cannot fail.
     pub fn at(place: usize) -> SizeName
         ensures { result ≡ name_at place }
     {

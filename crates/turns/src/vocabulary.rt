@@ -26,6 +26,8 @@ pub struct Sizes {
     pub turn: u32,
 }
 
+// Free, Nothing and Unknown below are cases and no Option: the world's definitions, which keep their meaning, speak of these very types.
+
 // What there is in a place for processes: nobody, a process that runs, or one that has left with a number and waits to be waited for.
 #[derive(Clone, Copy, Debug, PartialEq, Eq)]
 pub enum State {
