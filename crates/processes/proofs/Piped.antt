@@ -17,7 +17,7 @@ use Rattle.processes.specs.Pipes.{no_room, FreeEnds, piped}
 use Rattle.processes.specs.Looking.{lowest_free_pipe, lowest_free_open, lowest_free_handle}
 use Rattle.processes.proofs.Seeing.{none_of, some_of, pipe_is, open_first, open_second, handle_first, handle_second}
 use Rattle.processes.proofs.Called.{or_true}
-use Rattle.processes.proofs.Standing.{tabled_memory, tabled_others}
+use Rattle.processes.proofs.Standing.{tables_memory, tables_pipe}
 
 -- FINDING THEM
 
@@ -124,5 +124,5 @@ tabled_piped u w p e m l h =
     with_handles (process core v p) (set (set (process core v p).handles e.read_handle (Some e.read_open)) e.write_handle (Some e.write_open)) in
     let a : Tabled u (with_process v p q) = subst (Tabled u) (both_handles v p e.read_handle e.write_handle _ _ l) h in
     let b : Tabled u (with_process v p (with_memory q m)) =
-    subst (Tabled u) (ap (λ (x : W.Process Cpu). with_process (with_process v p q) p (with_memory x m)) (placed v p q l) ∙ twice v p q (with_memory q m)) (tabled_memory u (with_process v p q) p m a) in
-    subst (Tabled u) (swapped v p e.pipe (with_memory q m)) (tabled_others u (with_process v p (with_memory q m)) e.pipe [] b).0
+    subst (Tabled u) (ap (λ (x : W.Process Cpu). with_process (with_process v p q) p (with_memory x m)) (placed v p q l) ∙ twice v p q (with_memory q m)) (tables_memory u (with_process v p q) p m a) in
+    subst (Tabled u) (swapped v p e.pipe (with_memory q m)) (tables_pipe u (with_process v p (with_memory q m)) e.pipe [] b)
