@@ -1,14 +1,16 @@
 -- Searches and numbers, byte by byte. Assumes nothing.
-use Rattle.std.proofs.Common.{◌≡◌, ℕ, ◌+◌, ◌-◌, ◌<◌, ◌≤◌, Bool, ltb, List, [], ◌∷◌, length, get_or, drop, Some, None, Option, sym, refl, ap, ◌∙◌, arith}
+use Rattle.std.proofs.Common.{◌≡◌, ℕ, ◌+◌, ◌-◌, ◌<◌, ◌≤◌, Bool, ltb, List, [], ◌∷◌, length, get_or, drop, Some, None, Option, sym, refl, ap, ◌∙◌, ⊎_elim, arith}
 use Rattle.std.specs.Prelude.{find}
 use Rattle.std.specs.List.{range_with_len}
 use Rattle.std.specs.Option.{unwrap_or}
-use Rattle.std.proofs.lemmas.Bool.{cond_both, ltb-false}
+use Rattle.std.proofs.lemmas.Bool.{cond_both, ltb-true, ltb-false, cases_lt}
+use Rattle.std.proofs.lemmas.Option.{none-some, same_Some}
 use Rattle.octets.specs.Rows.{lowest_from}
 use Rattle.octets.proofs.Chains.{find_range}
-use Rattle.octets.proofs.Lowest.{lowest_from_le, lowest_from_ge}
+use Rattle.octets.proofs.Lowest.{lowest_from_le, lowest_from_ge, lowest_from_holds, lowest_here, lowest_end}
 use Rattle.std.proofs.lemmas.List.{drop_more, drop_all}
-use Rattle.inputs.specs.Texts.{found, with_digit, number_after, number_of}
+use Rattle.inputs.specs.Texts.{in_word, found, with_digit, number_after, number_of}
+use Rattle.inputs.specs.Lists.{span_at}
 
 -- where there is such a byte at first
 pub found_behind : (test : ℕ → Bool) (text : List ℕ) (i e : ℕ) → i ≤ found test text i e
@@ -31,6 +33,30 @@ pub found_by_find : (test : ℕ → Bool) (text : List ℕ) (i e r : ℕ) (o : O
 found_by_find test text i e r o h f u =
     let q : r ≡ found test text i e = u ∙ ap (λ x. unwrap_or x e) f ∙ by_find test text i e h in
     (q, omega (arith, q, found_behind test text i e), omega (arith, q, found_within test text i e h))
+
+pub found_none : (test : ℕ → Bool) (text : List ℕ) (i e : ℕ) (o : Option ℕ) → i ≤ e → o ≡ find (λ k. test (get_or text k 0)) (range_with_len i (e - i)) → o ≡ None → found test text i e ≡ e
+found_none test text i e o h f n = sym (found_by_find test text i e e o h f (sym (ap (λ x. unwrap_or x e) n))).0
+
+pub found_some : (test : ℕ → Bool) (text : List ℕ) (i e at : ℕ) (o : Option ℕ) → i ≤ e → o ≡ find (λ k. test (get_or text k 0)) (range_with_len i (e - i)) → o ≡ Some at →
+    (at ≡ found test text i e) × (at < e)
+found_some test text i e at o h f s =
+    let t : ℕ → Bool = λ k. test (get_or text k 0) in
+    let n : i + (e - i) ≡ e = omega arith in
+    cond_both (ltb (lowest_from t i (e - i)) (i + (e - i))) (Some (lowest_from t i (e - i))) None (λ x. x ≡ Some at → (at ≡ lowest_from t i (e - i)) × (at < e))
+    (λ k p. let q : lowest_from t i (e - i) ≡ at = same_Some _ _ p in let l = ltb-true _ _ k in (sym q, omega arith))
+    (λ _ p. absurd (none-some _ p))
+    (sym (find_range t i (e - i)) ∙ sym f ∙ s)
+
+-- from where it is found on, it is found there
+found_again : (test : ℕ → Bool) (text : List ℕ) (i e : ℕ) → i ≤ e → found test text (found test text i e) e ≡ found test text i e
+found_again test text i e h =
+    let t : ℕ → Bool = λ k. test (get_or text k 0) in
+    let n : i + (e - i) ≡ e = omega arith in
+    ⊎_elim (λ (l : found test text i e < e). lowest_here t (found test text i e) e l (lowest_from_holds t i (e - i) (omega arith))) (λ l. lowest_end t (found test text i e) e l) (cases_lt (found test text i e) e)
+
+-- so the next word is the same from its own place on
+pub word_again : (text : List ℕ) (i e : ℕ) → i ≤ e → span_at text (found in_word text i e) e ≡ span_at text i e
+word_again text i e h = rw (found_again in_word text i e h) refl
 
 pub number_none : (w : List ℕ) → length w ≡ 0 → number_of w ≡ None
 unfolding number_of

@@ -12,10 +12,13 @@ fn peek(events: &[u8], i: usize) -> Option<Input>
     requires within { i < length events.now }
     ensures { result ≡ peeked events.now i }
 {
-    match &events[i..] {
-        [0, a, b, c, d, ..] => Some(Input::Ticks(u32::from_le_bytes([*a, *b, *c, *d]))),
-        [1, screen, key, ..] => Some(Input::Key(*screen, *key)),
-        [2, a, b, c, d, fill, ..] => Some(Input::Cut(u32::from_le_bytes([*a, *b, *c, *d]), *fill)),
+    match (events[i], &events[i + 1..]) {
+        (0, [a, b, c, d, ..]) => Some(Input::Ticks(u32::from_le_bytes([*a, *b, *c, *d]))),
+        (1, [screen, key, ..]) => Some(Input::Key(*screen, *key)),
+        (2, [a, b, c, d, fill, ..]) => Some(Input::Cut(
+            u32::from_le_bytes([*a, *b, *c, *d]),
+            *fill,
+        )),
         _ => None,
     }
 }

@@ -29,7 +29,7 @@ pub(crate) struct Line<'a> {
 
 impl<'a> Line<'a> {
     ghost use Rattle.std.specs.Prelude.{◌≡◌, ◌≤◌, ◌==◌, ℕ, Bool};
-    ghost use Rattle.inputs.specs.Walks.{first};
+    ghost use Rattle.inputs.specs.Walks.{first, AtWord};
     ghost use Rattle.inputs.specs.Texts.{is_blank, in_word, is_newline, is_hash, found};
     ghost use Rattle.inputs.specs.Lists.{span_at};
 
@@ -72,6 +72,16 @@ impl<'a> Line<'a> {
         let word = self.word();
         self.at = word.to;
         word
+    }
+
+    // The line from its next word on, if it has one.
+    pub(crate) fn at_word(self) -> Option<Line<'a>>
+        ensures { AtWord self.entry result }
+    {
+        let text = self.text;
+        let end = self.end;
+        let at = self.find(|b| !is_blank(b))?;
+        Some(Line { text, at, end })
     }
 
     // Whether only blanks are left.

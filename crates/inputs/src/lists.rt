@@ -105,11 +105,10 @@ fn read_entry(line: Line) -> Result<Option<Entry>, Reason>
     ensures value { result ≡ entry_of line.entry.text.now line.entry.at line.entry.end }
     ensures within { EndsBy line.entry.end result }
 {
-    if line.is_blank() {
+    let Some(mut rest) = line.at_word() else {
         return Ok(None);
-    }
+    };
     let text = line.text;
-    let mut rest = line;
     let word = rest.take_word().of(text);
     let value = number(rest.take_word().of(text));
     if word == b"put".as_slice() {

@@ -86,13 +86,14 @@ fn read_line(line: Line) -> Result<Option<Input>, Wrong>
     let mut rest = line;
     let word = rest.take_word().of(text);
     let second = rest.take_word().of(text);
-    let behind_two = is_over(&rest);
+    if word == b"ticks".as_slice() {
+        return ticks_line(number(second), is_over(&rest));
+    }
     let third = rest.take_word().of(text);
-    let behind_three = is_over(&rest);
+    let over = is_over(&rest);
     match word {
-        b"ticks" => ticks_line(number(second), behind_two),
-        b"key" => key_line(byte_of(second), key_of(third), behind_three),
-        b"cut" => cut_line(number(second), byte_of(third), behind_three),
+        b"key" => key_line(byte_of(second), key_of(third), over),
+        b"cut" => cut_line(number(second), byte_of(third), over),
         _ => Err(Wrong::UnknownWord),
     }
 }
