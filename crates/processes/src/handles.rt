@@ -52,7 +52,10 @@ impl Process {
     fn leads_to(&self, h: usize, k: usize) -> bool
         ensures { result ≡ leads_to k (slice_index_or self.now.handles h None) }
     {
-        self.handle(h).is_some_and(|i| usize::from(i) == k)
+        match self.handles.get(h) {
+            Some(Some(i)) => usize::from(*i) == k,
+            _ => false,
+        }
     }
 
     // Whether one of the first `count` handles leads to the open thing `k`.
