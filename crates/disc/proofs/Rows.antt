@@ -1,7 +1,7 @@
 -- Rows of writes under a power. Assumes nothing.
-use Rattle.std.proofs.Common.{◌≡◌, ℕ, zero, suc, ◌+◌, ◌-◌, false, cond, eqb, ◌≢◌, ◌⊎◌, List, [], ◌∷◌, ◌++◌, get_or, set, sym, refl, ap, ◌∙◌, inl, inr, arith}
+use Rattle.std.proofs.Common.{◌≡◌, ℕ, zero, suc, ◌+◌, ◌-◌, false, cond, eqb, ◌≢◌, ◌⊎◌, List, [], ◌∷◌, ◌++◌, length, get_or, set, sym, refl, ap, ◌∙◌, inl, inr, arith}
 use Rattle.std.proofs.lemmas.Bool.{ne_eqb}
-use Rattle.std.proofs.lemmas.List.{get_or-set_other}
+use Rattle.std.proofs.lemmas.List.{length-set, get_or-set_other}
 use Rattle.std.proofs.lemmas.List.FromFn.{map-range_with_len_more}
 use Rattle.turns.specs.Promise.{written, torn}
 use Rattle.disc.specs.Blocks.{Disc}
@@ -43,6 +43,16 @@ puts_left (suc m) d (w ∷ ws) t =
     let z : eqb (suc m) 0 ≡ false = ne_eqb (suc m) 0 (λ e. omega arith) in
     let s : suc m - 1 ≡ m = omega arith in
     simp (z, s) (puts_left m (set d w.0 w.1) ws t)
+
+pub length_put_on : (p : Power) (d : Disc) (b : ℕ) (x t : List ℕ) → length (put_on p d b x t) ≡ length d
+length_put_on Lasting d b x t = length-set d b x
+length_put_on (Left n) d b x t = length-set d b (cond (eqb n 0) t x)
+length_put_on Gone d b x t = refl
+
+pub length_puts : (p : Power) (d : Disc) (ws : List Write) (t : List ℕ) → length (puts p d ws t) ≡ length d
+unfolding puts
+length_puts p d [] t = refl
+length_puts p d (w ∷ ws) t = length_puts (spent p) (put_on p d w.0 w.1 t) ws t ∙ length_put_on p d w.0 w.1 t
 
 pub put_on_other : (p : Power) (d : Disc) (b k : ℕ) (x t e : List ℕ) → k ≢ b → get_or (put_on p d b x t) k e ≡ get_or d k e
 put_on_other Lasting d b k x t e ne = get_or-set_other d b k x e ne

@@ -30,7 +30,11 @@ pub byte_here : (f : List ℕ) (p a : ℕ) → get_or f (place f p a) 0 ≡ byte
 unfolding byte_of
 byte_here f p a = refl
 
--- so a number that stands at a multiple of its size is the one that the process's bytes are
+-- so a number all whose bytes lie in one page is the one that the process's bytes are
+pub number_within : {N : Type 0} {size : ℕ} {from : (ℕ → ℕ) → ℕ → N} {bytes : N → List ℕ} → NumberLaws size from bytes → (f : List ℕ) (p a : ℕ) → a % 4096 + size ≤ 4096 → from (slice_index f) (place f p a) ≡ from (byte_of f p) a
+number_within laws f p a page = laws.same (slice_index f) (byte_of f p) (place f p a) a (λ k h. byte_next f p a k (omega arith))
+
+-- and so is one that stands at a multiple of its size
 pub number_here : {N : Type 0} {size : ℕ} {from : (ℕ → ℕ) → ℕ → N} {bytes : N → List ℕ} → NumberLaws size from bytes → (f : List ℕ) (p a : ℕ) → a % size ≡ 0 → from (slice_index f) (place f p a) ≡ from (byte_of f p) a
 number_here {size = size} laws f p a aligned =
     laws.same (slice_index f) (byte_of f p) (place f p a) a (λ k h. byte_next f p a k (aligned_in_page size a k laws.few laws.pages aligned h))

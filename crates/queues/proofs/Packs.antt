@@ -1,7 +1,7 @@
 -- Screens packed into one row. Assumes nothing.
-use Rattle.std.proofs.Common.{◌≡◌, ℕ, zero, suc, ◌+◌, ◌-◌, ◌<◌, ◌≤◌, true, leb, List, [], ◌++◌, length, get_or, map, drop, sym, ap, ◌∙◌, ⊎_elim, add-one, arith, rules}
+use Rattle.std.proofs.Common.{◌≡◌, ℕ, zero, suc, ◌+◌, ◌-◌, ◌<◌, ◌≤◌, true, leb, List, [], ◌++◌, length, get_or, map, drop, sym, refl, ap, ◌∙◌, ⊎_elim, add-one, arith, rules}
 use Rattle.std.specs.List.Sorted.{IsNonDecreasing}
-use Rattle.std.proofs.lemmas.List.{ext_get_or, length-append, length-drop, length-take-le, get_or-take, get_or-drop, get_or-map, length-map, get_or_default, get_or_append_left, get_or-append_right, places}
+use Rattle.std.proofs.lemmas.List.{ext_get_or, length-append, length-drop, length-take-le, get_or-take, get_or-drop, get_or-map, length-map, get_or_default, get_or_append_left, get_or-append_right, append-nil, append_assoc, places}
 use Rattle.std.proofs.lemmas.Bool.{cases_lt, cases_order, leb-true}
 use borrow.Rule.Slice.PartMut.{put_mid, mid_of}
 use Rattle.octets.proofs.Parts.{part_long}
@@ -130,3 +130,15 @@ module _ (s r : Screens) (xs ys zs bs : List ℕ) (t : ℕ) (rows : length s.beg
 pub none_shown : (s : Screens) → ((t : ℕ) → begin_of s t ≡ 0) → (xs : List ℕ) (t : ℕ) → screen_of s xs t ≡ []
 unfolding screen_of
 none_shown s none xs t = let e : begin_of s (t + 1) - begin_of s t ≡ 0 = omega (arith, none (t + 1)) in rw e
+
+-- nothing more, and some bytes and then others, as one row
+pub appended_none : (s : Screens) (xs : List ℕ) (t : ℕ) → Appended s xs s xs t []
+appended_none s xs t = record { here = sym (append-nil (screen_of s xs t)); others = λ u h ne. refl; more = omega arith }
+
+pub appended_then : (s r q : Screens) (xs ys zs : List ℕ) (t : ℕ) (bs cs : List ℕ) → Appended s xs r ys t bs → Appended r ys q zs t cs → Appended s xs q zs t (bs ++ cs)
+appended_then s r q xs ys zs t bs cs a b =
+    record {
+      here = b.here ∙ ap (λ l. l ++ cs) a.here ∙ append_assoc (screen_of s xs t) bs cs;
+      others = λ u h ne. b.others u h ne ∙ a.others u h ne;
+      more = omega (arith, a.more, b.more, length-append bs cs);
+    }

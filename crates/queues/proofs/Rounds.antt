@@ -1,6 +1,6 @@
 -- Rings. Assumes nothing.
 use Rattle.std.proofs.Common.{◌≡◌, ℕ, ◌+◌, ◌-◌, ◌*◌, ◌%◌, ◌<◌, ◌≤◌, List, [], ◌++◌, length, get_or, take, drop, sym, ap, ◌∙◌, ⊎_elim, arith}
-use Rattle.std.proofs.lemmas.List.{ext_get_or, length-append, length-drop, length-take-le, get_or-take, get_or-drop, get_or_append_left, get_or-append_right}
+use Rattle.std.proofs.lemmas.List.{ext_get_or, length-append, length-drop, length-take-le, get_or-take, get_or-drop, get_or_append_left, get_or-append_right, take-take, drop-take, take-append-drop, append_assoc}
 use Rattle.std.proofs.lemmas.Bool.{cases_lt, cases_order}
 use Rattle.std.proofs.lemmas.List.FromFn.{length-map-range_with_len, get_or-map-range_with_len}
 use borrow.Rule.Slice.PartMut.{put_mid}
@@ -83,3 +83,13 @@ pub read_queued : (q : Queue) (xs out : List ℕ) (t at : ℕ) → at ≡ t * 40
 read_queued q xs out t at is few read =
     ext_get_or 0 out (take (length out) (queued q xs t)) (sym (length-take-le (length out) (queued q xs t) (omega (arith, length_queued q xs t))))
     (λ k l. read k l ∙ row_byte xs at _ (omega arith) ∙ ap (λ x. get_or xs (x + (q.start + k) % 4096) 0) is ∙ sym (get_or_queued q xs t k (omega arith)) ∙ sym (get_or-take (length out) (queued q xs t) k 0 l))
+
+-- the first d bytes of bs came behind qs, and then n more of its first m
+pub take_then : (qs ps rs bs : List ℕ) (d n m : ℕ) → d ≤ m → m ≤ length bs → n ≤ m - d → ps ≡ qs ++ take d bs → rs ≡ ps ++ take n (take (m - d) (drop d bs)) → rs ≡ qs ++ take (d + n) bs
+take_then qs ps rs bs d n m h l k a b =
+    b ∙ ap (λ x. x ++ take n (take (m - d) (drop d bs))) a ∙ append_assoc qs (take d bs) (take n (take (m - d) (drop d bs))) ∙ ap (λ x. qs ++ x) joined
+  where
+    joined : take d bs ++ take n (take (m - d) (drop d bs)) ≡ take (d + n) bs
+    joined =
+        ap (λ x. take d bs ++ x) (take-take n (m - d) (drop d bs) k ∙ sym (drop-take d n bs)) ∙ ap (λ x. x ++ drop d (take (d + n) bs)) (sym (take-take d (d + n) bs (omega arith)))
+        ∙ take-append-drop d (take (d + n) bs)
