@@ -1,4 +1,5 @@
 pub mod Blocks
+pub mod Same
 pub mod Writes
 pub mod Layout
 pub mod Plans
