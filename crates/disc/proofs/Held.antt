@@ -1,8 +1,8 @@
 -- The files that a taken disc holds, as the code reads them. Assumes nothing.
-use Rattle.std.proofs.Common.{◌≡◌, ℕ, zero, suc, Bool, true, false, ◌-◌, refl, ◌+◌, ◌*◌, ◌/◌, ◌%◌, ◌<◌, ◌≤◌, ◌&&◌, List, [], length, get_or, take, drop, sym, ap, ◌∙◌, subst, ⊎_elim, arith}
+use Rattle.std.proofs.Common.{◌≡◌, ℕ, zero, suc, Bool, true, false, min, ◌-◌, refl, ◌+◌, ◌*◌, ◌/◌, ◌%◌, ◌<◌, ◌≤◌, ◌&&◌, List, [], length, get_or, take, drop, sym, ap, ◌∙◌, subst, ⊎_elim, arith}
 use Rattle.std.specs.List.{range_with_len, flat_map, list_all}
 use Rattle.std.proofs.lemmas.List.{ext_get_or, length-take, length-drop, get_or-take, get_or-drop, get_or_past}
-use Rattle.std.proofs.lemmas.Bool.{cases_eq, cases_lt, both_ways, and_parts, and_from, or_right, lt-leb, le-leb, eqb-true, eq-eqb}
+use Rattle.std.proofs.lemmas.Bool.{cases_eq, cases_lt, both_ways, and_parts, and_from, eqb-true, eq-eqb}
 use Rattle.octets.specs.Rows.{Bytes}
 use Rattle.octets.proofs.Over.{bytes_take, bytes_append}
 use Rattle.std.proofs.lemmas.List.FromFn.{get_or-map-range_with_len, length-map-range_with_len, fill_by_all}
@@ -80,7 +80,7 @@ all_at test a (suc n) e k l u =
 
 all_same : (bytes : List ℕ) (b a n : ℕ) → list_all (same_from bytes b bytes b) (range_with_len a n) ≡ true
 all_same bytes b a zero = refl
-all_same bytes b a (suc n) = and_from (same_from bytes b bytes b a) _ (or_right _ _ (eq-eqb (get_or bytes (b + a) 0) (get_or bytes (b + a) 0) refl)) (all_same bytes b (a + 1) n)
+all_same bytes b a (suc n) = and_from (same_from bytes b bytes b a) _ (eq-eqb (get_or bytes (b + a) 0) (get_or bytes (b + a) 0) refl) (all_same bytes b (a + 1) n)
 
 -- two ways to ask the same, place by place
 all_as : (p q : ℕ → Bool) (a n : ℕ) → ((k : ℕ) → a ≤ k → k < a + n → p k ≡ q k) → list_all p (range_with_len a n) ≡ list_all q (range_with_len a n)
@@ -88,31 +88,29 @@ all_as p q a zero h = refl
 all_as p q a (suc n) h = rw (h a (omega arith) (omega arith)) (ap (λ x. q a && x) (all_as p q (a + 1) n (λ k l u. h k (omega arith) (omega arith))))
 
 -- what is asked of a block of the disc is asked of the file
-pub block_as : (p : Shape) (h : Header) (xs bytes : List ℕ) (f b block n : ℕ) → f < p.files → 512 * room p ≤ length xs → b < p.each → length_in h f ≡ length bytes → n ≤ 512 →
+pub block_as : (p : Shape) (h : Header) (xs bytes : List ℕ) (f b block n : ℕ) → f < p.files → 512 * room p ≤ length xs → b < p.each → length_in h f ≡ length bytes → n ≤ 512 → n ≤ length bytes - 512 * b →
     block ≡ place p (copy_in h (f * p.each + b)) (f * p.each + b) →
     list_all (same_from xs (512 * block) bytes (512 * b)) (range_with_len 0 n) ≡ list_all (same_from (file_in p h (blocks xs) f) (512 * b) bytes (512 * b)) (range_with_len 0 n)
-block_as p h xs bytes f b block n l large w e small q = all_as _ _ 0 n
-    (λ k _ u. ⊎_elim
-    (λ (v : 512 * b + k < length bytes).
+block_as p h xs bytes f b block n l large w e small left q = all_as _ _ 0 n
+    (λ k _ u.
     let i : (512 * b + k) / 512 ≡ b = omega arith in
     let r : (512 * b + k) % 512 ≡ k = omega arith in
     let t = file_byte p h xs f l large (512 * b + k) block (omega arith) (omega arith) (rw i q) in
     rw (← t, r) refl)
-    (λ (v : length bytes ≤ 512 * b + k). rw (le-leb (length bytes) (512 * b + k) v) refl) (cases_lt (512 * b + k) (length bytes)))
 
 -- block b of a file as the code compares it: up to the end of the block or of the bytes
 module _ (file bytes : List ℕ) (b : ℕ) where
-  pub block_more : list_all (same_from file (512 * b) bytes (512 * b)) (range_with_len 0 512) ≡ true →
+  pub block_more : list_all (same_from file (512 * b) bytes (512 * b)) (range_with_len 0 (min (length bytes - 512 * b) 512)) ≡ true →
       ((k : ℕ) → k < 512 * b → k < length bytes → get_or file k 0 ≡ get_or bytes k 0) → (k : ℕ) → k < 512 * (b + 1) → k < length bytes → get_or file k 0 ≡ get_or bytes k 0
   block_more e h k l u =
       ⊎_elim (λ (q : k < 512 * b). h k q u)
       (λ (q : 512 * b ≤ k).
       let i : 512 * b + (k - 512 * b) ≡ k = omega arith in
-      let t : same_from file (512 * b) bytes (512 * b) (k - 512 * b) ≡ true = all_at (same_from file (512 * b) bytes (512 * b)) 0 512 e (k - 512 * b) (omega arith) (omega arith) in
-      eqb-true (get_or file k 0) (get_or bytes k 0) (rw (i, lt-leb (length bytes) k u) at t)) (cases_lt k (512 * b))
+      let t : same_from file (512 * b) bytes (512 * b) (k - 512 * b) ≡ true = all_at (same_from file (512 * b) bytes (512 * b)) 0 (min (length bytes - 512 * b) 512) e (k - 512 * b) (omega arith) (omega arith) in
+      eqb-true (get_or file k 0) (get_or bytes k 0) (rw i at t)) (cases_lt k (512 * b))
 
-  pub block_differs : list_all (same_from file (512 * b) bytes (512 * b)) (range_with_len 0 512) ≡ false → file ≡ bytes → ⊥
-  block_differs e q = both_ways _ e (subst (λ (x : List ℕ). list_all (same_from x (512 * b) bytes (512 * b)) (range_with_len 0 512) ≡ true) (sym q) (all_same bytes (512 * b) 0 512))
+  pub block_differs : list_all (same_from file (512 * b) bytes (512 * b)) (range_with_len 0 (min (length bytes - 512 * b) 512)) ≡ false → file ≡ bytes → ⊥
+  block_differs e q = both_ways _ e (subst (λ (x : List ℕ). list_all (same_from x (512 * b) bytes (512 * b)) (range_with_len 0 (min (length bytes - 512 * b) 512)) ≡ true) (sym q) (all_same bytes (512 * b) 0 _))
 
 -- all files of a disc
 pub holds_if : (z : Sizes) (xs : List ℕ) (p : Shape) (hs : List ℕ) (fs : List (List ℕ)) → p ≡ plan_of z → Taken z (blocks xs) → blocks hs ≡ current_header p (blocks xs) → length fs ≡ z.files →

@@ -1,5 +1,5 @@
 // The files of a disc by a header, which may be the disc's own or one that is kept beside it. No equality: nobody compares two.
-ghost use Rattle.std.specs.Prelude.{◌≡◌, ◌+◌, ◌*◌, ◌^◌, ◌<◌, ◌≤◌, length};
+ghost use Rattle.std.specs.Prelude.{◌≡◌, ◌+◌, ◌-◌, min, ◌*◌, ◌≤◌, length};
 ghost use Rattle.std.specs.List.{list_all, range_with_len};
 ghost use Rattle.disc.specs.Layout.{room};
 ghost use Rattle.disc.specs.Plans.{shape};
@@ -20,16 +20,15 @@ pub struct Files<'a> {
 
 // Whether a block that begins at place `start` of a row holds the same as some bytes from place `at` on, as far as these go.
 fn is_same_row(row: &[u8], start: usize, bytes: &[u8], at: usize) -> bool
-    requires within { start + 512 ≤ length row.now }
-    requires small { at + 512 < 2 ^ 64 }
-    ensures { result ≡ list_all (same_from row.now start bytes.now at) (range_with_len 0 512) }
+    requires { start + 512 ≤ length row.now }
+    ensures { result ≡ list_all (same_from row.now start bytes.now at) (range_with_len 0 (min (length bytes.now - at) 512)) }
 {
-    (0..512).all(|i| at + i >= bytes.len() || row[start + i] == bytes[at + i])
+    (0..bytes.len().saturating_sub(at).min(512)).all(|i| row[start + i] == bytes[at + i])
 }
 
 impl<'a> Files<'a> {
     ghost use Rattle.std.specs.List.{list_all, range_with_len};
-    ghost use Rattle.std.specs.Prelude.{◌≡◌, ℕ, ◌+◌, ◌*◌, ◌<◌, ◌≤◌, true, false, [], map, length, take, drop, vec_items, ◌≢◌, slice_index, slice_index_or};
+    ghost use Rattle.std.specs.Prelude.{◌≡◌, ℕ, ◌+◌, ◌-◌, min, ◌*◌, ◌<◌, ◌≤◌, true, false, [], map, length, take, drop, vec_items, ◌≢◌, slice_index, slice_index_or};
     ghost use Rattle.disc.specs.Layout.{length_in};
     ghost use Rattle.disc.specs.Lent.{header_of, file_of};
 
@@ -63,7 +62,7 @@ impl<'a> Files<'a> {
         requires block { b < self.now.plan.each }
         requires long { length_in (header_of self.now) f ≡ length bytes.now }
         requires sound { length bytes.now ≤ self.now.plan.size }
-        ensures { result ≡ list_all (same_from (file_of self.now f) (512 * b) bytes.now (512 * b)) (range_with_len 0 512) }
+        ensures { result ≡ list_all (same_from (file_of self.now f) (512 * b) bytes.now (512 * b)) (range_with_len 0 (min (length bytes.now - 512 * b) 512)) }
     {
         // The block is looked up once, and not for each byte.
         let j = f * self.plan.each + b;

@@ -9,5 +9,5 @@ pub returns : goal.returns
 returns c =
     let s = c.args.self.now in
     c.is_same_row.ensures
-    ∙ block_as (shape s.plan) (header_of s) s.disc.now c.args.bytes.now c.args.f c.args.b c.place_of-block.result 512 c.requires.file s.large c.requires.block c.requires.long (omega arith)
+    ∙ block_as (shape s.plan) (header_of s) s.disc.now c.args.bytes.now c.args.f c.args.b c.place_of-block.result _ c.requires.file s.large c.requires.block c.requires.long (omega arith) (omega arith)
     (c.place_of-block.ensures.value ∙ ap (λ (x : ℕ). place (shape s.plan) x (c.args.f * s.plan.each + c.args.b)) c.copy_of.ensures.value)
